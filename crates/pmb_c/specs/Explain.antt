@@ -1,8 +1,8 @@
 -- What is said of a profile's fault.
 use Rattle.std.specs.Prelude.{◌≡◌, ◌≢◌, ℕ, Result, Ok, Err, List, [], length}
-use Rattle.pmb_command.specs.Parts.{DeviceParts}
 use Rattle.pmb_io.specs.Count.{capped}
 use Rattle.pmb_in_memory.specs.Laid.{laid}
+use Rattle.pmb_table.specs.Profile.{ProfileParts}
 use Rattle.pmb_table.specs.declared.fault.ProfileFault.{ProfileFault}
 use Rattle.pmb_in_memory.specs.Profile.{IsProfile}
 use Rattle.pmb_in_memory.specs.declared.fault.WholeFault.{WholeFault}
@@ -26,14 +26,14 @@ pub record TellsFault (fault : ProfileFault) (before after : List ℕ) (told : P
   pub tells : told ≡ result_of_fault fault count
 
 -- only a fault has a text
-abbrev pub ExplainsOutcome : Result (List DeviceParts) WholeFault → List ℕ → List ℕ → PmbResult → Type 0
-ExplainsOutcome (Ok devices) before after told = (after ≡ before) × (told ≡ result_of_status Done)
+abbrev pub ExplainsOutcome : Result ProfileParts WholeFault → List ℕ → List ℕ → PmbResult → Type 0
+ExplainsOutcome (Ok bus) before after told = (after ≡ before) × (told ≡ result_of_status Done)
 ExplainsOutcome (Err (Profile fault)) before after told = TellsFault fault before after told
 ExplainsOutcome (Err Memory) before after told = (after ≡ before) × (told ≡ result_of_status NoMemory)
 ExplainsOutcome (Err Write) before after told = ⊥
 
 -- of the profile of a text
 pub record Explains (profile before after : List ℕ) (told : PmbResult) : Type 0 where
-  pub outcome : Result (List DeviceParts) WholeFault
+  pub outcome : Result ProfileParts WholeFault
   pub is_profile : IsProfile profile outcome
   pub explains : ExplainsOutcome outcome before after told

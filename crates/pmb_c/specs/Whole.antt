@@ -1,20 +1,20 @@
 -- What a call over a whole input does.
 use Rattle.std.specs.Prelude.{◌≡◌, ℕ, Option, Some, None, Result, List, length}
-use Rattle.pmb_command.specs.Parts.{DeviceParts}
 use Rattle.pmb_io.specs.Runs.{Job}
 use Rattle.pmb_io.specs.declared.tally.Tally.{Tally}
-use Rattle.pmb_json.specs.Json.{json_job}
+use Rattle.pmb_table.specs.Profile.{ProfileParts}
+use Rattle.pmb_in_memory.specs.Json.{telling}
 use Rattle.pmb_in_memory.specs.Put.{Puts}
 use Rattle.pmb_in_memory.specs.declared.fault.WholeFault.{WholeFault}
+use Rattle.pmb_in_memory.specs.declared.json_choice.JsonChoice.{JsonChoice}
 use Rattle.pmb_in_memory.specs.declared.put.Put.{Put}
-use Rattle.pmb_c.specs.declared.choice.Chosen.{Chosen}
 use Rattle.pmb_c.specs.declared.result.PmbResult.{PmbResult}
 use Rattle.pmb_firmware.specs.declared.call_status.CallStatus.TheVariants.{BadChoice}
 use Rattle.pmb_c.specs.Result.{result_of, result_of_status}
 
 -- The job's text for an input under a profile's text stands in the room, or the room stays: what is
 -- told says which.
-pub record Answers (job : List DeviceParts → Job Tally) (profile input before after : List ℕ)
+pub record Answers (job : ProfileParts → Job Tally) (profile input before after : List ℕ)
     (told : PmbResult) : Type 0 where
   pub outcome : Result Put WholeFault
   pub puts : Puts job profile input before after outcome
@@ -26,8 +26,7 @@ pub record StaysUnchosen (before after : List ℕ) (told : PmbResult) : Type 0 w
   pub tells : told ≡ result_of_status BadChoice
 
 -- as JSON, of devices at these addresses, and as it is chosen
-abbrev pub AnswersJson : Option Chosen → List ℕ → List ℕ → List ℕ → List ℕ → List ℕ → PmbResult → Type 0
-AnswersJson (Some chosen) devices profile capture before after told =
-    Answers (λ bus. json_job (record { digits = chosen.digits; start = chosen.start; devices = devices }) bus
-    chosen.bad_words) profile capture before after told
+abbrev pub AnswersJson : Option JsonChoice → List ℕ → List ℕ → List ℕ → List ℕ → List ℕ → PmbResult → Type 0
+AnswersJson (Some choice) devices profile capture before after told =
+    Answers (telling choice devices) profile capture before after told
 AnswersJson None devices profile capture before after told = StaysUnchosen before after told

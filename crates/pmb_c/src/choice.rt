@@ -7,6 +7,7 @@ ghost use Rattle.std.specs.Prelude.{◌≡◌, option_map};
 ghost use Rattle.pmb_c.specs.Choice.{bad_words_of, chosen, is_address, start_of};
 
 use pmb_decimal::Digits;
+use pmb_in_memory::JsonChoice;
 use pmb_json::AfterBadToken;
 use pmb_unknown_start::Start;
 
@@ -24,18 +25,10 @@ pub struct PmbChoice {
     pub bad_words: u8,
 }
 
-/// The same by names.
-#[derive(Clone, Copy)]
-pub(crate) struct Chosen {
-    pub(crate) digits: Digits,
-    pub(crate) start: Start,
-    pub(crate) bad_words: AfterBadToken,
-}
-
 impl PmbChoice {
     /// What it chooses, of devices at these addresses; `None` where one of its numbers is none that
     /// its field has, or an address has more than seven bits.
-    pub(crate) fn chosen(&self, devices: &[u8]) -> Option<Chosen>
+    pub(crate) fn chosen(&self, devices: &[u8]) -> Option<JsonChoice>
         ensures { result ≡ chosen self.now devices.now }
     {
         if !are_addresses(devices) {
@@ -50,7 +43,7 @@ impl PmbChoice {
         let Some(bad_words) = bad_words(self.bad_words) else {
             return None;
         };
-        Some(Chosen {
+        Some(JsonChoice {
             digits,
             start,
             bad_words,

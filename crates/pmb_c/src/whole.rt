@@ -18,7 +18,6 @@ use crate::choice::PmbChoice;
 use crate::result::PmbResult;
 use pmb_firmware::CallStatus;
 use pmb_in_memory::{MemoryTask, put_json, put_whole};
-use pmb_json_stream::Choice;
 use std::alloc::Global;
 
 /// Writes a line for each packet and each refusal of a capture, as `pmb show` does.
@@ -104,14 +103,9 @@ pub extern "C" fn pmb_json(
     ensures length { result ≡ told.new.length }
 {
     match choice.chosen(devices) {
-        Some(chosen) => {
+        Some(choice) => {
             let size = room.len();
-            let choice = Choice {
-                digits: chosen.digits,
-                start: chosen.start,
-                devices,
-            };
-            let outcome = put_json(choice, chosen.bad_words, alloc, profile, capture, room);
+            let outcome = put_json(choice, devices, alloc, profile, capture, room);
             *told = PmbResult::of(outcome, size);
         }
         None => *told = PmbResult::of_status(CallStatus::BadChoice),

@@ -55,6 +55,16 @@ read_data profile address code data_bytes with_pec bytes says =
     behind_front with_pec (write_address address ∷ code ∷ read_address address ∷ [])
     (wire says.form data_bytes) bytes 3 says.spelled refl
 
+-- What stands after the code of a written leg is the data with their packet error code, so all after
+-- the address byte is the body.
+pub spells_write : (with_pec : Bool) (bytes wired : List ℕ) → 2 ≤ length bytes
+    → drop 2 bytes ≡ checked with_pec (take 2 bytes) wired
+    → bytes ≡ get_or bytes 0 0 ∷ checked with_pec (get_or bytes 0 0 ∷ []) (get_or bytes 1 0 ∷ wired)
+spells_write with_pec [] wired enough behind = absurd (omega arith)
+spells_write with_pec (a ∷ []) wired enough behind = absurd (omega arith)
+spells_write false (a ∷ b ∷ bytes) wired enough behind = ap (λ (rest : List ℕ). a ∷ b ∷ rest) behind
+spells_write true (a ∷ b ∷ bytes) wired enough behind = ap (λ (rest : List ℕ). a ∷ b ∷ rest) behind
+
 -- ---- of both legs of a call
 
 -- the reply, after the second address byte

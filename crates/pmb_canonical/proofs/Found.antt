@@ -109,3 +109,16 @@ pub call_form : (device : DeviceParts) (code : ℕ) (entry : EntryParts) (form :
     → Some entry ≡ option_map (λ c. c.entry) (command_with code device.commands)
     → entry.shape.call ≡ Some form → (forms device code).call ≡ Some form
 call_form device code entry form is call = call_of_entry (command_with code device.commands) entry form is call
+
+write_of_entry : (command : Option CommandParts) (entry : EntryParts) (form : Form)
+    → Some entry ≡ option_map (λ c. c.entry) command
+    → entry.shape.write ≡ Some form → (shape_of command).write ≡ Some form
+write_of_entry None entry form is write = cc is
+write_of_entry (Some command) entry form is write = ap (λ (e : EntryParts). e.shape.write)
+    (sym (same_Some entry command.entry is)) ∙ write
+
+-- and that in which it is written
+pub write_form : (device : DeviceParts) (code : ℕ) (entry : EntryParts) (form : Form)
+    → Some entry ≡ option_map (λ c. c.entry) (command_with code device.commands)
+    → entry.shape.write ≡ Some form → (forms device code).write ≡ Some form
+write_form device code entry form is write = write_of_entry (command_with code device.commands) entry form is write

@@ -106,7 +106,14 @@ impl<O: Output> Visitor for Account<O> {
     fn visit_bytes(&mut self, _bytes: &[u8]) {}
 
     #[inline(always)]
-    fn visit_event(&mut self, _event: Event) {}
+    fn visit_event<W: Sink>(
+        &mut self,
+        _event: Event,
+        _waiting: &mut Waiting,
+        _writer: &mut W,
+    ) -> Result<(), RunFault> {
+        Ok(())
+    }
 
     fn visit_packet<W: Sink>(
         &mut self,

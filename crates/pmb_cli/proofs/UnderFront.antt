@@ -4,14 +4,13 @@
 use Rattle.std.proofs.Common.{◌≡◌, ◌∙◌, ◌⊎◌, ℕ, true, false, Option, Some, None, Ok, List, [], ◌∷◌, ◌++◌, length, inl}
 use Rattle.std.proofs.Common.{inr, refl, sym, ap, subst, length-append, append-nil, append_assoc}
 use Rattle.std.specs.Io.KnownBytes.{Consumes}
-use Rattle.pmb_command.specs.Parts.{DeviceParts}
 use Rattle.pmb_io.specs.Count.{raised}
 use Rattle.pmb_io.specs.Runs.{Done, Gave, Job, OpenBefore, PartDone, Through}
 use Rattle.pmb_io.specs.Told.{ReaderTold, WriterTold}
 use Rattle.pmb_io.specs.declared.tally.Tally.{Tally}
 use Rattle.pmb_io.proofs.Running.{gave_no_more, gave_then, open_weaker, raised_twice}
 use Rattle.pmb_io.proofs.Writing.{consumes_then}
-use Rattle.pmb_table.specs.Profile.{Says}
+use Rattle.pmb_table.specs.Profile.{ProfileParts, SaysBus}
 use Rattle.pmb_preamble.specs.Front.{EndsAtMark, EndsWithReader, FirstMark, IsFront, Parts, ReadFront, ReadUndecided}
 use Rattle.pmb_preamble.specs.Front.{Undecided}
 use Rattle.pmb_cli.specs.Profiles.{BeginsWithProfile, UnderFront}
@@ -42,22 +41,22 @@ none_read None read consumed = absurd consumed
 
 module _ {R : Type 0} (told : R → ReaderTold) (stays : Stays) where
   -- the profile was read, and then what follows it
-  abbrev begins : (IsCut : List ℕ → List ℕ → List ℕ → Type 0) (devices : List DeviceParts) (old mid : R)
+  abbrev begins : (IsCut : List ℕ → List ℕ → List ℕ → Type 0) (bus : ProfileParts) (old mid : R)
       (new : ReaderTold) (Ran : List ℕ → List ℕ → Type 0) (held_old held_new : WriterTold) (parts : Parts)
-      → (before : ReadFront told old mid parts) → parts.marked ≡ true → Says parts.profile (Ok devices)
+      → (before : ReadFront told old mid parts) → parts.marked ≡ true → SaysBus parts.profile (Ok bus)
       → (through : Through Ran parts.rest (record { reader = told mid; writer = held_old })
       (record { reader = new; writer = held_new }))
       → (FirstMark (before.read ++ through.read) parts.profile (parts.rest ++ through.read)
       → IsCut (before.read ++ through.read) parts.profile (parts.rest ++ through.read))
       → BeginsWithProfile IsCut (record { reader = told old; writer = held_old })
       (record { reader = new; writer = held_new })
-  begins IsCut devices old mid new Ran held_old held_new parts before marked says through cuts = record {
+  begins IsCut bus old mid new Ran held_old held_new parts before marked says through cuts = record {
     -- profile and rest: what was read of both, and what was put out
     read = before.read ++ through.read;
     text = through.text;
     profile = parts.profile;
     rest = parts.rest ++ through.read;
-    devices = devices;
+    bus = bus;
     consumed = consumes_then (told old).left (told mid).left new.left before.read through.read
         before.reads.gave.consumed through.consumed;
     given = through.given ∙ (ap (λ n. raised n (length through.read)) before.reads.gave.given
@@ -71,17 +70,17 @@ module _ {R : Type 0} (told : R → ReaderTold) (stays : Stays) where
   }
 
   -- all was profile, and nothing follows
-  all_profile : (Holds : List DeviceParts → List ℕ → List ℕ → List ℕ → Type 0) (devices : List DeviceParts)
+  all_profile : (Holds : ProfileParts → List ℕ → List ℕ → List ℕ → Type 0) (bus : ProfileParts)
       (old new : R) (Ran : List ℕ → List ℕ → Type 0) (empty_old empty_new : ReaderTold) (held_old held_new : WriterTold)
       (parts : Parts)
-      → (before : ReadFront told old new parts) → parts.marked ≡ false → Says parts.profile (Ok devices)
+      → (before : ReadFront told old new parts) → parts.marked ≡ false → SaysBus parts.profile (Ok bus)
       → empty_old.left ≡ Some [] → (through : Through Ran [] (record { reader = empty_old; writer = held_old })
       (record { reader = empty_new; writer = held_new }))
       → (EndsWithReader before.read parts (told new) → Ran parts.rest through.text
-      → Holds devices parts.rest through.text before.read)
+      → Holds bus parts.rest through.text before.read)
       → UnderFront Holds (record { reader = told old; writer = held_old })
       (record { reader = told new; writer = held_new })
-  all_profile Holds devices old new Ran empty_old empty_new held_old held_new parts before unmarked says empty through
+  all_profile Holds bus old new Ran empty_old empty_new held_old held_new parts before unmarked says empty through
       holds =
       -- the reader ended in the profile, so the work has no bytes
       let ends = at_end before.read parts _ before.ends unmarked in
@@ -92,7 +91,7 @@ module _ {R : Type 0} (told : R → ReaderTold) (stays : Stays) where
           text = through.text;
           profile = parts.profile;
           rest = parts.rest;
-          devices = devices;
+          bus = bus;
           consumed = before.reads.gave.consumed;
           given = before.reads.gave.given;
           appended = through.appended;
@@ -149,60 +148,60 @@ module _ {R : Type 0} (told : R → ReaderTold) (stays : Stays) where
 
   -- ---- a job under the profile that comes first
 
-  module _ {W : Type 0} (writer_told : W → WriterTold) (job : List DeviceParts → Job Tally) (devices : List DeviceParts)
+  module _ {W : Type 0} (writer_told : W → WriterTold) (job : ProfileParts → Job Tally) (bus : ProfileParts)
       (old mid : R) (out out_new : W) (parts : Parts) (before : ReadFront told old mid parts) where
-    pub done_after_mark : (new : R) (tally : Tally) → parts.marked ≡ true → Says parts.profile (Ok devices)
-        → Done told writer_told (job devices) tally parts.rest (mid, out) (new, out_new)
+    pub done_after_mark : (new : R) (tally : Tally) → parts.marked ≡ true → SaysBus parts.profile (Ok bus)
+        → Done told writer_told (job bus) tally parts.rest (mid, out) (new, out_new)
         → DoneUnderFront told writer_told job tally (old, out) (new, out_new)
     -- the work took all that follows
     done_after_mark new tally marked says (inl ended) = record {
-      begins = begins IsFront devices old mid (told new) ((job devices).Whole tally) (writer_told out)
+      begins = begins IsFront bus old mid (told new) ((job bus).Whole tally) (writer_told out)
           (writer_told out_new) parts before marked says ended.through (λ first. inl first);
       holds = inl (ended.through.holds, ended.ended, ended.at_end);
     }
     -- or wanted no more of it
     done_after_mark new tally marked says (inr stopped) = record {
-      begins = begins IsFront devices old mid (told new) ((job devices).Stops tally) (writer_told out)
+      begins = begins IsFront bus old mid (told new) ((job bus).Stops tally) (writer_told out)
           (writer_told out_new) parts before marked says stopped.through (λ first. inl first);
       holds = inr (
         stopped.through.holds,
-        stopped_in_time (job devices).IsOpen old mid new parts before marked stopped.through.read
+        stopped_in_time (job bus).IsOpen old mid new parts before marked stopped.through.read
             (record { consumed = stopped.through.consumed; given = stopped.through.given }) stopped.in_time,
       );
     }
 
     -- of what has nothing, nothing more was read
     pub done_without_mark : {S : Type 0} (told_empty : S → ReaderTold) (empty empty_new : S) (tally : Tally)
-        → parts.marked ≡ false → Says parts.profile (Ok devices) → (told_empty empty).left ≡ Some []
-        → Done told_empty writer_told (job devices) tally [] (empty, out) (empty_new, out_new)
+        → parts.marked ≡ false → SaysBus parts.profile (Ok bus) → (told_empty empty).left ≡ Some []
+        → Done told_empty writer_told (job bus) tally [] (empty, out) (empty_new, out_new)
         → DoneUnderFront told writer_told job tally (old, out) (mid, out_new)
     done_without_mark told_empty empty empty_new tally unmarked says none (inl ended) =
-        all_profile (WritesRest told writer_told job old mid tally) devices old mid ((job devices).Whole tally)
+        all_profile (WritesRest told writer_told job old mid tally) bus old mid ((job bus).Whole tally)
         (told_empty empty) (told_empty empty_new) (writer_told out) (writer_told out_new) parts before unmarked says
         none ended.through
         (λ ends holds. inl (holds, ends.ended, ends.at_end))
     done_without_mark told_empty empty empty_new tally unmarked says none (inr stopped) =
-        all_profile (WritesRest told writer_told job old mid tally) devices old mid ((job devices).Stops tally)
+        all_profile (WritesRest told writer_told job old mid tally) bus old mid ((job bus).Stops tally)
         (told_empty empty) (told_empty empty_new) (writer_told out) (writer_told out_new) parts before unmarked says
         none stopped.through
         (λ ends holds. inr (
           holds,
-          open_weaker told Undecided (OpenUnderFront (job devices).IsOpen) [] old mid
+          open_weaker told Undecided (OpenUnderFront (job bus).IsOpen) [] old mid
               before.read (λ bytes undecided. inl undecided) before.reads.in_time,
         ))
 
     -- where a read failed after it, or there were too many
-    pub part_after_mark : (new : R) → parts.marked ≡ true → Says parts.profile (Ok devices)
-        → PartDone told writer_told (job devices) parts.rest (mid, out) (new, out_new)
+    pub part_after_mark : (new : R) → parts.marked ≡ true → SaysBus parts.profile (Ok bus)
+        → PartDone told writer_told (job bus) parts.rest (mid, out) (new, out_new)
         → PartDoneUnderFront told writer_told job (old, out) (new, out_new)
     part_after_mark new marked says through = inr (record {
-      begins = begins FirstMark devices old mid (told new) (job devices).Front (writer_told out)
+      begins = begins FirstMark bus old mid (told new) (job bus).Front (writer_told out)
           (writer_told out_new) parts before marked says through (λ first. first);
       holds = through.holds;
     })
 
   -- where a read failed within the profile
-  pub part_of_profile : {W : Type 0} (writer_told : W → WriterTold) (job : List DeviceParts → Job Tally) (old new : R)
+  pub part_of_profile : {W : Type 0} (writer_told : W → WriterTold) (job : ProfileParts → Job Tally) (old new : R)
       (out : W) → ReadUndecided told old new
       → PartDoneUnderFront told writer_told job (old, out) (new, out)
   part_of_profile writer_told job old new out before = inl (record {

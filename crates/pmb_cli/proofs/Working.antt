@@ -10,10 +10,10 @@ use Rattle.pmb_io.specs.declared.fault.ToolFault.{ToolFault}
 use Rattle.pmb_io.specs.declared.fault.ToolFault.TheVariants.{Read, Write, TooManyReads, ProfileTooLong, Memory}
 use Rattle.pmb_io.specs.declared.tally.Tally.{Tally}
 use Rattle.pmb_run.specs.Lines.{OrNoMemory}
+use Rattle.pmb_table.specs.Profile.{ProfileParts}
 use Rattle.pmb_args.specs.ExitStatus.{run_status}
 use Rattle.pmb_args.specs.declared.exit_status.ExitStatus.{ExitStatus}
 use Rattle.pmb_args.specs.declared.exit_status.ExitStatus.TheVariants.{BadArguments, IoFailed, NoMemory}
-use Rattle.pmb_command.specs.Parts.{DeviceParts}
 use Rattle.pmb_args.specs.Asked.{Wanted, Run}
 use Rattle.pmb_cli.specs.Often.{MadeReadsInAll}
 use Rattle.pmb_cli.specs.Statuses.{Does, StatusTells}
@@ -118,18 +118,21 @@ module _ {R W : Type 0} (reader_told : R → ReaderTold) (writer_told : W → Wr
 -- ---- by which work it is
 
 module _ {R W : Type 0} (reader_told : R → ReaderTold) (writer_told : W → WriterTold) (work wanted : Wanted)
-    (is : work ≡ wanted) (profile : List DeviceParts) (first : List ℕ) (reader reader_new : R) (out out_new : W) where
+    (is : work ≡ wanted) (bus : ProfileParts) (first : List ℕ) (reader reader_new : R) (out out_new : W) where
   abbrev Did : Wanted → Result Tally ToolFault → Type 0
-  Did w = AsTool (Ran reader_told writer_told (working w profile) first (reader, out) (reader_new, out_new))
+  Did w = AsTool (Ran reader_told writer_told (working w bus) first (reader, out) (reader_new, out_new))
 
   abbrev DidOrNoMemory : Wanted → Result Tally ToolFault → Type 0
   DidOrNoMemory w = OrNoMemory ((w ≡ Run) × (reader_new ≡ reader) × (out_new ≡ out)) (Did w)
 
-  -- one that takes no memory
-  pub did_work : (outcome : Result Tally ToolFault) → Did wanted outcome → DidOrNoMemory work outcome
-  did_work outcome ran = subst (λ (w : Wanted). DidOrNoMemory w outcome) (sym is)
-      (work_without_memory reader_told writer_told (wanted ≡ Run) (working wanted profile) first reader reader_new out
-      out_new outcome ran)
+  -- one that takes no memory, as the job of what it was done under
+  pub did_work : (job : Job Tally) → job ≡ working wanted bus → (outcome : Result Tally ToolFault)
+      → AsTool (Ran reader_told writer_told job first (reader, out) (reader_new, out_new)) outcome
+      → DidOrNoMemory work outcome
+  did_work job same outcome ran = subst (λ (w : Wanted). DidOrNoMemory w outcome) (sym is)
+      (work_without_memory reader_told writer_told (wanted ≡ Run) (working wanted bus) first reader reader_new out
+      out_new outcome (subst (λ (j : Job Tally). AsTool (Ran reader_told writer_told j first (reader, out)
+      (reader_new, out_new)) outcome) same ran))
 
 -- ---- over a reader that has nothing, after the front of another
 

@@ -4,7 +4,6 @@ use Rattle.std.specs.Io.KnownBytes.{IsAtEnd}
 use Rattle.pmb_build.specs.Lines.{building}
 use Rattle.pmb_capture.specs.Check.{checking}
 use Rattle.pmb_capture.specs.Show.{showing}
-use Rattle.pmb_command.specs.Parts.{DeviceParts}
 use Rattle.pmb_io.specs.Runs.{Done, Job, OpenBefore, PartDone}
 use Rattle.pmb_io.specs.Told.{ReaderTold, WriterTold, told_by}
 use Rattle.pmb_io.specs.Tally.{IsTallyOf}
@@ -12,6 +11,7 @@ use Rattle.pmb_io.specs.declared.tally.Tally.{Tally}
 use Rattle.pmb_preamble.specs.Front.{FirstMark, Undecided}
 use Rattle.pmb_run.specs.Lines.{running}
 use Rattle.pmb_profile_text.specs.Table.{bus_text}
+use Rattle.pmb_table.specs.Profile.{ProfileParts}
 use Rattle.pmb_cli.specs.Profiles.{PartUnderFront, UnderFront, UnderSample}
 use Rattle.pmb_cli.specs.Json.{telling}
 use Rattle.pmb_args.specs.Asked.{Wanted, Show, Check, Json, Build, Run, Profile}
@@ -19,12 +19,12 @@ use Rattle.pmb_args.specs.declared.profile_place.ProfilePlace.{ProfilePlace}
 use Rattle.pmb_args.specs.declared.profile_place.ProfilePlace.TheVariants.{Sample, Front}
 
 -- The text of the bus was written, and nothing was counted.
-pub record IsDescribed (bus : List DeviceParts) (tally : Tally) (text : List ℕ) : Type 0 where
-  pub whole : text ≡ bus_text bus
+pub record IsDescribed (bus : ProfileParts) (tally : Tally) (text : List ℕ) : Type 0 where
+  pub whole : text ≡ bus_text bus.ignored bus.devices
   pub counts : IsTallyOf 0 0 tally
 
 -- What `profile` is to write: the text of the bus, whatever follows its profile. Of that nothing is wanted.
-abbrev pub describing : List DeviceParts → Job Tally
+abbrev pub describing : ProfileParts → Job Tally
 describing bus = record {
   Whole = λ tally bytes text. IsDescribed bus tally text;
   Stops = λ tally bytes text. IsDescribed bus tally text;
@@ -32,14 +32,15 @@ describing bus = record {
   IsOpen = λ bytes. ⊥;
 }
 
--- what each work is to write under a profile
-abbrev pub working : Wanted → List DeviceParts → Job Tally
-working Show profile = showing profile
-working Check profile = checking profile
-working (Json choice) profile = telling choice profile
-working Build profile = building profile
-working Run profile = running profile
-working Profile profile = describing profile
+-- What each work is to write under a profile. Only `json` and `profile` look at the addresses that
+-- it ignores.
+abbrev pub working : Wanted → ProfileParts → Job Tally
+working Show bus = showing bus.devices
+working Check bus = checking bus.devices
+working (Json wanted) bus = telling wanted bus
+working Build bus = building bus.devices
+working Run bus = running bus.devices
+working Profile bus = describing bus
 
 -- What was read but for a last piece left something open: nothing was decided of the profile, or
 -- the job wants more of what
@@ -49,15 +50,14 @@ OpenUnderFront IsOpen read = Undecided read
     ⊎ ((profile : List ℕ) × (rest : List ℕ) × FirstMark read profile rest × IsOpen rest)
 
 module _ {R W : Type 0} (reader_told : R → ReaderTold) (writer_told : W → WriterTold)
-    (job : List DeviceParts → Job Tally) where
+    (job : ProfileParts → Job Tally) where
   -- The text was written for what follows a profile: the reader ended, or no more was wanted, from
   -- the last piece on, which
   -- came by one read.
-  abbrev pub WritesRest : R → R → Tally → List DeviceParts → List ℕ → List ℕ → List ℕ → Type 0
-  WritesRest old new tally devices rest text read =
-      ((job devices).Whole tally rest text × ((reader_told new).ended ≡ true) × IsAtEnd (reader_told new).left)
-      ⊎ ((job devices).Stops tally rest text × OpenBefore reader_told (OpenUnderFront (job devices).IsOpen) [] old new
-      read)
+  abbrev pub WritesRest : R → R → Tally → ProfileParts → List ℕ → List ℕ → List ℕ → Type 0
+  WritesRest old new tally bus rest text read =
+      ((job bus).Whole tally rest text × ((reader_told new).ended ≡ true) × IsAtEnd (reader_told new).left)
+      ⊎ ((job bus).Stops tally rest text × OpenBefore reader_told (OpenUnderFront (job bus).IsOpen) [] old new read)
 
   -- a job is done under the profile that comes first in its input
   abbrev pub DoneUnderFront : Tally → R × W → R × W → Type 0
@@ -66,17 +66,17 @@ module _ {R W : Type 0} (reader_told : R → ReaderTold) (writer_told : W → Wr
 
   -- a part of it is
   abbrev pub PartDoneUnderFront : R × W → R × W → Type 0
-  PartDoneUnderFront old new = PartUnderFront (λ devices. (job devices).Front) (told_by reader_told writer_told old)
+  PartDoneUnderFront old new = PartUnderFront (λ bus. (job bus).Front) (told_by reader_told writer_told old)
       (told_by reader_told writer_told new)
 
   -- it is done under the sample profile
   abbrev pub DoneUnderSample : List ℕ → Tally → R × W → R × W → Type 0
   DoneUnderSample sample tally old new = UnderSample
-      (λ profile. Done reader_told writer_told (job profile) tally [] old new) sample
+      (λ bus. Done reader_told writer_told (job bus) tally [] old new) sample
 
   abbrev pub PartDoneUnderSample : List ℕ → R × W → R × W → Type 0
   PartDoneUnderSample sample old new = UnderSample
-      (λ profile. PartDone reader_told writer_told (job profile) [] old new) sample
+      (λ bus. PartDone reader_told writer_told (job bus) [] old new) sample
 
   -- the same, by where the profile is
   abbrev pub DoneUnder : ProfilePlace → List ℕ → Tally → R × W → R × W → Type 0

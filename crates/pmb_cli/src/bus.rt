@@ -8,7 +8,7 @@ ghost use Rattle.pmb_io.specs.Runs.{AsTool, Ran};
 
 use pmb_io::{Sink, Source, Tally, ToolFault};
 use pmb_profile_text::describe;
-use pmb_table::Profile;
+use pmb_table::BusProfile;
 
 /// Writes the bus that a profile makes, and reads nothing.
 ///
@@ -16,14 +16,14 @@ use pmb_table::Profile;
 ///
 /// `Write` where the writer failed.
 pub(crate) fn describe_bus<R: Source, W: Sink>(
-    profile: &Profile,
+    bus: &BusProfile,
     _first: &[u8],
     _reader: &mut R,
     out: &mut W,
 ) -> Result<Tally, ToolFault>
-    ensures { AsTool (Ran R.told W.told (describing profile.now) _first.now (_reader.old, out.old) (_reader.new, out.new)) result }
+    ensures { AsTool (Ran R.told W.told (describing bus.now) _first.now (_reader.old, out.old) (_reader.new, out.new)) result }
 {
-    match describe(profile, out) {
+    match describe(bus, out) {
         Ok(()) => Ok(Tally::new()),
         Err(_) => Err(ToolFault::Write),
     }

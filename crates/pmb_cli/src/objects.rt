@@ -11,10 +11,10 @@ use pmb_args::JsonArguments;
 use pmb_io::{Sink, Source, Tally, ToolFault};
 use pmb_json::json;
 use pmb_json_stream::Choice;
-use pmb_table::Profile;
+use pmb_table::BusProfile;
 
 /// Writes what the capture says whose text is `first` and what the reader gives, under a profile, as
-/// the arguments choose it.
+/// the arguments choose it. Packets of the addresses that the profile ignores are told as others.
 ///
 /// # Errors
 ///
@@ -22,17 +22,25 @@ use pmb_table::Profile;
 /// bytes and the reader had not ended.
 pub(crate) fn write_json<R: Source, W: Sink>(
     chosen: &JsonArguments,
-    profile: &Profile,
+    bus: &BusProfile,
     first: &[u8],
     reader: &mut R,
     out: &mut W,
 ) -> Result<Tally, ToolFault>
-    ensures { AsTool (Ran R.told W.told (telling (json_wanted_of chosen.now) profile.now) first.now (reader.old, out.old) (reader.new, out.new)) result }
+    ensures { AsTool (Ran R.told W.told (telling (json_wanted_of chosen.now) bus.now) first.now (reader.old, out.old) (reader.new, out.new)) result }
 {
     let choice = Choice {
         digits: chosen.digits,
         start: chosen.start,
         devices: chosen.devices.as_slice(),
+        ignored: bus.ignored(),
     };
-    json(profile, choice, chosen.after_bad_token, first, reader, out)
+    json(
+        bus.profile(),
+        choice,
+        chosen.after_bad_token,
+        first,
+        reader,
+        out,
+    )
 }

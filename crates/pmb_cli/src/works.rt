@@ -22,7 +22,7 @@ use pmb_io::{Empty, Sink, Source, Tally, ToolFault};
 use pmb_preamble::laws::one_front;
 use pmb_preamble::{front, sample_profile};
 use pmb_run::run;
-use pmb_table::{Profile, ProfileFault, SAMPLE};
+use pmb_table::{BusProfile, ProfileFault, SAMPLE};
 use std::alloc::Global;
 
 /// Does a work on what the reader gives under the sample profile, and returns the exit status.
@@ -36,7 +36,7 @@ pub(crate) fn run_under_sample<R: Source, W: Sink, E: Sink>(
     ensures { DidTask R.told W.told E.told SAMPLE.now (UnderProfile Sample (wanted_of work.now)) (reader.old, out.old, err.old) (reader.new, out.new, err.new) result }
 {
     match sample_profile(alloc) {
-        Ok(profile) => ended(do_work(work, alloc, &profile, &[], reader, out), err),
+        Ok(bus) => ended(do_work(work, alloc, &bus, &[], reader, out), err),
         Err(fault) => report(fault, err),
     }
 }
@@ -58,14 +58,11 @@ pub(crate) fn run_under_front<R: Source, W: Sink, E: Sink>(
         Ok(front) => front,
         Err(fault) => return report(fault, err),
     };
-    match Profile::from_toml(alloc, front.profile()) {
-        Ok(profile) if front.has_capture() => {
-            ended(
-                do_work(work, alloc, &profile, front.rest(), reader, out),
-                err,
-            )
+    match BusProfile::from_toml(alloc, front.profile()) {
+        Ok(bus) if front.has_capture() => {
+            ended(do_work(work, alloc, &bus, front.rest(), reader, out), err)
         }
-        Ok(profile) => ended(do_work(work, alloc, &profile, &[], &mut Empty, out), err),
+        Ok(bus) => ended(do_work(work, alloc, &bus, &[], &mut Empty, out), err),
         Err(fault) => report_fault(work, alloc, front.profile(), fault, err),
     }
 }
@@ -79,22 +76,23 @@ pub(crate) fn run_under_front<R: Source, W: Sink, E: Sink>(
 fn do_work<R: Source, W: Sink>(
     work: &Subcommand,
     alloc: Global,
-    profile: &Profile,
+    bus: &BusProfile,
     first: &[u8],
     reader: &mut R,
     out: &mut W,
 ) -> Result<Tally, ToolFault>
     // `run` alone takes memory, before it reads or writes.
     ensures { OrNoMemory ((wanted_of work.now ≡ Run) × (reader.new ≡ reader.old) × (out.new ≡ out.old))
-        (AsTool (Ran R.told W.told (working (wanted_of work.now) profile.now) first.now (reader.old, out.old) (reader.new, out.new))) result }
+        (AsTool (Ran R.told W.told (working (wanted_of work.now) bus.now) first.now (reader.old, out.old) (reader.new, out.new))) result }
 {
+    let profile = bus.profile();
     match work {
         Subcommand::Show => show(profile, first, reader, out),
         Subcommand::Check => check_capture(profile, first, reader, out),
-        Subcommand::Json(chosen) => write_json(chosen, profile, first, reader, out),
+        Subcommand::Json(chosen) => write_json(chosen, bus, first, reader, out),
         Subcommand::Build => build(profile, first, reader, out),
         Subcommand::Run => run(alloc, profile, first, reader, out),
-        Subcommand::Profile => describe_bus(profile, first, reader, out),
+        Subcommand::Profile => describe_bus(bus, first, reader, out),
     }
 }
 

@@ -1,5 +1,5 @@
 -- What an accepted bus is.
-use Rattle.std.specs.Prelude.{◌≡◌, ◌≢◌, ℕ, ℤ, ◌<◌, ◌≤◌, true, false, IfSome, List, length}
+use Rattle.std.specs.Prelude.{◌≡◌, ◌≢◌, ℕ, ℤ, ◌<◌, ◌≤◌, true, false, IfSome, Option, Some, None, List, length}
 use Rattle.std.specs.List.{AllByRecursion}
 use Rattle.pmb_coefficients.specs.Exponent.{IsExponent}
 use Rattle.pmb_command.specs.declared.entry.Kind.TheVariants.{Raw, Linear11Fixed}
@@ -7,8 +7,9 @@ use Rattle.pmb_command.specs.Entry.{EntryParts}
 use Rattle.pmb_command.specs.Commands.{standard_entry}
 use Rattle.pmb_command.specs.Fitting.{are_kept, calls_fit, has_form, is_always_raw, is_fixed, is_length, kind_fits}
 use Rattle.pmb_command.specs.Fitting.{reads_data, register_form, value_form, ways_agree}
-use Rattle.pmb_command.specs.Names.{IsNameOf}
-use Rattle.pmb_command.specs.Parts.{CommandParts, DeviceParts, HaveOwnAddresses, HaveOwnCodes}
+use Rattle.pmb_command.specs.Names.{IsDeviceName, IsNameOf}
+use Rattle.pmb_command.specs.Parts.{CommandParts, DeviceParts, HaveOwnAddresses, HaveOwnCodes, InitialParts, Same, Each}
+use Rattle.pmb_command.specs.Parts.{all_same, has_one_mode}
 
 -- An address that a device may have (SMBus 3.0 appendix C): 08h to 77h, and not 0ch, the Alert
 -- Response Address.
@@ -39,12 +40,24 @@ pub record IsFitting (e : EntryParts) : Type 0 where
   -- an exponent that is fixed is one of LINEAR11's, from -16 to 15
   pub exponent : (exponent : ℤ) → e.kind ≡ Linear11Fixed exponent → IsExponent exponent
 
--- The bytes that a command holds at first: PAGE and VOUT_MODE are given none, nor is a command
+-- The bytes that a command holds at first on a page: PAGE and VOUT_MODE are given none, nor is a command
 -- without a register, and they are as many as its form has.
 pub record IsInitial (e : EntryParts) (bytes : List ℕ) : Type 0 where
   pub not_page : e.code ≢ 0x00
   pub not_vout_mode : e.code ≢ 0x20
   pub fits : is_length (register_form e.shape) (length bytes) ≡ true
+
+-- What a command holds at first: such bytes, the same on each page; or, where it has a value for each
+-- page, items of such bytes.
+abbrev pub AreInitial : EntryParts → InitialParts → Type 0
+AreInitial e (Same bytes) = IsInitial e bytes
+AreInitial e (Each items) = (e.paged ≡ true) × AllByRecursion (IsInitial e) items
+
+-- where there are items, there is one for each page
+abbrev pub HasItemForEach : ℕ → Option InitialParts → Type 0
+HasItemForEach pages None = Unit
+HasItemForEach pages (Some (Same bytes)) = Unit
+HasItemForEach pages (Some (Each items)) = length items ≡ pages
 
 -- A command that a device may have: a code, a name, and parts that go together.
 pub record IsEntry (e : EntryParts) : Type 0 where
@@ -52,19 +65,26 @@ pub record IsEntry (e : EntryParts) : Type 0 where
   pub name : IsNameOf e.code e.name
   pub fitting : IsFitting e
 
--- Such a command, and the bytes that it holds at first where a profile says.
+-- Such a command, and what it holds at first where a profile says.
 pub record IsCommand (c : CommandParts) : Type 0 where
   pub entry : IsEntry c.entry
-  pub initial : IfSome c.initial (IsInitial c.entry)
+  pub initial : IfSome c.initial (AreInitial c.entry)
 
 -- A device that a bus may have.
 pub record IsDevice (d : DeviceParts) : Type 0 where
   pub address : IsDeviceAddress d.address
   pub some_page : 1 ≤ d.pages
   pub few_pages : d.pages ≤ 32
-  pub byte : d.vout_mode < 256
+  -- a name is 1 to 32 printable characters
+  pub name : IfSome d.name IsDeviceName
+  -- VOUT_MODE at first is a byte for each page, and the same where it has one value for all pages
+  pub mode_of_each : length d.modes ≡ d.pages
+  pub bytes : AllByRecursion (λ mode. mode < 256) d.modes
+  pub one_mode : has_one_mode d.commands ≡ true → all_same d.modes ≡ true
   pub own_codes : HaveOwnCodes d.commands
   pub commands : AllByRecursion IsCommand d.commands
+  -- what commands hold at first is told for each page, if by items
+  pub items : AllByRecursion (λ c. HasItemForEach d.pages c.initial) d.commands
 
 -- A bus that a profile may describe.
 pub record IsBus (bus : List DeviceParts) : Type 0 where

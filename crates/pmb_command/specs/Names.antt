@@ -1,6 +1,6 @@
--- The names of commands.
+-- The names of commands and devices.
 use Rattle.std.specs.Prelude.{◌≡◌, ◌⊎◌, ℕ, ◌≤◌, Bool, true, ◌&&◌, List, [], ◌∷◌, ◌++◌, codes, length, nat_eq, nat_le}
-use Rattle.std.specs.List.{list_all, list_any}
+use Rattle.std.specs.List.{AllByRecursion, list_all, list_any}
 use Rattle.hex.specs.Hex.{encode_lower}
 
 -- the characters of which a name is made
@@ -24,3 +24,17 @@ pub record IsNameOf (code : ℕ) (name : List ℕ) : Type 0 where
   pub some : 1 ≤ length name
   pub most : length name ≤ 32
   pub spelled : (is_name name ≡ true) ⊎ (name ≡ code_name code)
+
+-- a character that a name of a device may have: those of ASCII that can be printed
+abbrev pub is_printable : ℕ → Bool
+is_printable b = nat_le 0x20 b && nat_le b 0x7e
+
+-- 1 to 32 of them
+abbrev pub is_device_name : List ℕ → Bool
+is_device_name text = (nat_le 1 (length text) && nat_le (length text) 32) && list_all is_printable text
+
+-- A name of a device, of 1 to 32 characters, each from 20h to 7eh.
+pub record IsDeviceName (name : List ℕ) : Type 0 where
+  pub some : 1 ≤ length name
+  pub most : length name ≤ 32
+  pub printable : AllByRecursion (λ b. (0x20 ≤ b) × (b ≤ 0x7e)) name

@@ -1,27 +1,55 @@
 -- What contracts see of a profile, as the list of its devices.
-use Rattle.std.specs.Prelude.{◌≡◌, ℕ, false, Option, List, map, nat_eq}
-use Rattle.std.specs.List.{IsDistinct, find, list_any}
+use Rattle.std.specs.Prelude.{◌≡◌, ℕ, Bool, true, false, not, Option, Some, None, List, [], ◌∷◌, map, nat_eq, slice_get}
+use Rattle.std.specs.List.{IsDistinct, find, list_all, list_any}
 use Rattle.pmb_coefficients.specs.Coefficients.{Coefficients}
 use Rattle.pmb_command.specs.declared.pec_mode.PecMode.{PecMode}
 use Rattle.pmb_command.specs.Entry.{EntryParts}
 
+-- The bytes that a register has at first: the same on each page, or an item for each page, from page
+-- 0 on.
+pub data InitialParts : Type 0 where
+  Same : List ℕ → InitialParts
+  Each : List (List ℕ) → InitialParts
+
+-- those on a page, where a profile says
+abbrev pub initial_on : ℕ → Option InitialParts → Option (List ℕ)
+initial_on page None = None
+initial_on page (Some (Same bytes)) = Some bytes
+initial_on page (Some (Each items)) = slice_get items page
+
 -- a command of a device, and the bytes that it has at first where the profile says
 pub record CommandParts : Type 0 where
   pub entry : EntryParts
-  pub initial : Option (List ℕ)
+  pub initial : Option InitialParts
 
--- a device of a bus
+-- a device of a bus; `name` where the profile gives one, and `modes` is VOUT_MODE of each page at
+-- first, from page 0 on
 pub record DeviceParts : Type 0 where
   pub address : ℕ
+  pub name : Option (List ℕ)
   pub pec : PecMode
   pub pages : ℕ
-  pub vout_mode : ℕ
+  pub modes : List ℕ
   pub vout_direct : Option Coefficients
   pub commands : List CommandParts
 
 -- the command with a code
 abbrev pub command_with : ℕ → List CommandParts → Option CommandParts
 command_with code commands = find (λ c. nat_eq c.entry.code code) commands
+
+-- there is a command, and it has one value for all pages
+abbrev pub is_unpaged : Option CommandParts → Bool
+is_unpaged None = false
+is_unpaged (Some c) = not c.entry.paged
+
+-- VOUT_MODE is among the commands, and has one value for all pages
+abbrev pub has_one_mode : List CommandParts → Bool
+has_one_mode commands = is_unpaged (command_with 0x20 commands)
+
+-- all numbers are the same
+abbrev pub all_same : List ℕ → Bool
+all_same [] = true
+all_same (n ∷ ns) = list_all (nat_eq n) ns
 
 -- the device with an address
 abbrev pub device_with : ℕ → List DeviceParts → Option DeviceParts

@@ -30,6 +30,6 @@ pub use commands::{by_name, standard};
 pub use entry::{Entry, Kind};
 pub use fitting::{is_fitting, is_length, register_form};
 pub use form::{Form, Shape};
-pub use name::{Name, is_name, name_of_code};
+pub use name::{Name, is_device_name, is_name, name_of_code};
 pub use pec_mode::PecMode;
 pub use status_bits::bit_name;

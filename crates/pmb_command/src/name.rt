@@ -1,15 +1,15 @@
-//! The names of commands.
+//! The names of commands and devices.
 //!
 //! Its rows: `tests/rows/profiles.txt`.
 
 ghost use Rattle.std.specs.Prelude.{◌≡◌, ◌<◌, ℕ, IsTrue, slice_index};
 ghost use Rattle.std.specs.List.{list_all};
 ghost use Rattle.hex.specs.Hex.{lower_digits};
-ghost use Rattle.pmb_command.specs.Names.{IsNameOf, code_name, is_name, is_name_byte};
+ghost use Rattle.pmb_command.specs.Names.{IsDeviceName, IsNameOf, code_name, is_device_name, is_name, is_name_byte, is_printable};
 
 use arrayvec::ArrayString;
 
-/// The name of a command.
+/// The name of a command or a device.
 pub type Name = ArrayString<32>;
 
 /// Whether a byte is one of A to Z, 0 to 9 and `_`.
@@ -32,6 +32,29 @@ pub fn is_name(text: &str) -> bool
     ensures fits { IsTrue result → (code : ℕ) → IsNameOf code text.now }
 {
     !text.is_empty() && text.len() <= 32 && has_name_bytes(text)
+}
+
+/// Whether a byte is a printable character of ASCII.
+const fn is_printable(byte: u8) -> bool
+    ensures { result ≡ is_printable byte }
+{
+    matches!(byte, b' '..=b'~')
+}
+
+/// Whether a text has printable characters alone.
+fn has_printable_bytes(text: &str) -> bool
+    ensures { result ≡ list_all is_printable text.now }
+{
+    text.as_bytes().iter().all(|byte| is_printable(*byte))
+}
+
+/// Whether a text may be the name of a device: 1 to 32 characters from 20h to 7eh.
+#[tactic(auto, using(crate::proofs::NameLemmas::device_name))]
+pub fn is_device_name(text: &str) -> bool
+    ensures value { result ≡ is_device_name text.now }
+    ensures fits { IsTrue result → IsDeviceName text.now }
+{
+    !text.is_empty() && text.len() <= 32 && has_printable_bytes(text)
 }
 
 /// A digit below 16, in lower case.

@@ -17,7 +17,7 @@ pub(crate) struct Parts<'a> {
     pub(crate) read: &'a str,
     call: &'a str,
     kind: &'a str,
-    paged: bool,
+    pub(crate) paged: bool,
 }
 
 /// The word of a form.

@@ -14,6 +14,10 @@ pub(crate) struct TablePlace<'a> {
     pub(crate) device: Option<usize>,
     /// The number of its command, from 0, if it is one.
     pub(crate) command: Option<usize>,
+    /// The addresses that the profile ignores.
+    pub(crate) ignored: &'a [Value],
+    /// How many pages its device has.
+    pub(crate) pages: i64,
 }
 
 impl<'a> TablePlace<'a> {
@@ -31,7 +35,7 @@ impl<'a> TablePlace<'a> {
 /// A table of a profile, whose keys are written with their values.
 #[derive(Clone, Copy)]
 pub(crate) struct Keyed<'a> {
-    place: TablePlace<'a>,
+    pub(crate) place: TablePlace<'a>,
     /// What comes before its keys where they are written.
     pub(crate) prefix: &'static str,
     pub(crate) table: &'a Table,
@@ -97,6 +101,20 @@ impl<'a> Keyed<'a> {
         let shown = self.shown(key, value);
         let prefix = self.prefix;
         let _ = write!(lines, "  {prefix}{key} = {}: {rule}\n", shown.as_str());
+        true
+    }
+
+    /// Writes an item of a key's array and a rule on a line if the item is there, and returns whether it
+    /// is.
+    pub(crate) fn item_rule(&self, key: &str, place: usize, rule: &str, lines: &mut Hints) -> bool {
+        let Some(items) = self.items(key) else {
+            return false;
+        };
+        let Some(item) = items.get(place) else {
+            return false;
+        };
+        let shown = shown(item);
+        let _ = write!(lines, "  {key}[{place}] = {}: {rule}\n", shown.as_str());
         true
     }
 }

@@ -5,9 +5,10 @@
 use crate::keyed::Keyed;
 use crate::lines::Hints;
 use crate::values::word;
-use crate::words::{COMMAND, DEVICE, Words, example_of, is_among, similar, type_of};
+use crate::words::{COMMAND, DEVICE, Words, example_of, is_among, items_of, similar, type_of};
 use arrayvec::ArrayString;
 use std::fmt::Write;
+use toml::Value;
 
 /// Writes the first key that a table may not have, if there is one.
 pub(crate) fn unknown_key(keyed: Keyed<'_>, keys: Words, lines: &mut Hints) -> bool {
@@ -23,7 +24,11 @@ pub(crate) fn unknown_key(keyed: Keyed<'_>, keys: Words, lines: &mut Hints) -> b
 
 /// Writes of an unknown key which one may have been meant, where it belongs, or which there are.
 fn tell_unknown(text: &str, keys: Words, lines: &mut Hints) {
-    if is_among(DEVICE, text) {
+    if text == "ignore" {
+        let _ = lines.try_push_str(
+            "a key of the whole profile, so it belongs before the first [[device]]\n",
+        );
+    } else if is_among(DEVICE, text) {
         let _ = lines.try_push_str(
             "a key of a device, so it belongs between its [[device]] and the next header\n",
         );
@@ -51,10 +56,7 @@ fn tell_unknown(text: &str, keys: Words, lines: &mut Hints) {
 pub(crate) fn wrong_type(keyed: Keyed<'_>, keys: Words, lines: &mut Hints) -> bool {
     for key in keys {
         if let Some(value) = keyed.get(*key) {
-            let found = value.type_str();
-            let needed = type_of(key);
-            if found != needed {
-                tell_type(keyed, key, found, needed, lines);
+            if is_wrong(keyed, key, value, lines) {
                 return true;
             }
         }
@@ -62,16 +64,51 @@ pub(crate) fn wrong_type(keyed: Keyed<'_>, keys: Words, lines: &mut Hints) -> bo
     false
 }
 
-/// Writes a key whose value has another type than it needs.
-fn tell_type(keyed: Keyed<'_>, key: &str, found: &str, needed: &str, lines: &mut Hints) {
-    let mut rule = ArrayString::<128>::new();
+/// Writes a value of another type than its key needs, if it is one.
+fn is_wrong(keyed: Keyed<'_>, key: &str, value: &Value, lines: &mut Hints) -> bool {
+    if let (Some(needed), Some(items)) = (items_of(key), value.as_array()) {
+        return wrong_item(keyed, key, items.as_slice(), needed, lines);
+    }
+    let found = value.type_str();
+    let needed = type_of(key);
+    if found == needed {
+        return false;
+    }
+    let rule = if items_of(key).is_some() && needed != "array" {
+        types_rule(needed, " or an array", found)
+    } else {
+        types_rule(needed, "", found)
+    };
+    keyed.rule(key, rule.as_str(), lines)
+}
+
+/// Writes the first item of an array that has another type than it needs, if there is one.
+fn wrong_item(
+    keyed: Keyed<'_>,
+    key: &str,
+    items: &[Value],
+    needed: &str,
+    lines: &mut Hints,
+) -> bool {
+    for (place, item) in items.iter().enumerate() {
+        let found = item.type_str();
+        if found != needed {
+            return keyed.item_rule(key, place, types_rule(needed, "", found).as_str(), lines);
+        }
+    }
+    false
+}
+
+/// Which type is needed, or which two, and the one that is there.
+fn types_rule(needed: &str, other: &str, found: &str) -> ArrayString<128> {
+    let mut rule = ArrayString::new();
     let _ = write!(
         rule,
-        "{} is needed, and this is {}",
+        "{}{other} is needed, and this is {}",
         with_article(needed).as_str(),
         with_article(found).as_str()
     );
-    keyed.rule(key, rule.as_str(), lines);
+    rule
 }
 
 /// The name of a type with its article.
@@ -99,6 +136,14 @@ pub(crate) fn missing_key(keyed: Keyed<'_>, needed: Words, lines: &mut Hints) ->
         }
     }
     false
+}
+
+/// Writes a line if a key is there and its value is no array.
+pub(crate) fn no_array(keyed: Keyed<'_>, key: &str, line: &str, lines: &mut Hints) -> bool {
+    match keyed.get(key) {
+        Some(value) => value.as_array().is_none() && lines.try_push_str(line).is_ok(),
+        None => false,
+    }
 }
 
 /// Writes that a command has neither a code nor a name, if it has none.

@@ -19,6 +19,7 @@ mod initial;
 mod keyed;
 mod keys;
 mod lines;
+mod lists;
 mod mistakes;
 mod numbers;
 mod report;

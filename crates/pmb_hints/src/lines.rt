@@ -46,6 +46,8 @@ fn table_hint(text: &str, table: &Table, fault: ProfileFault, lines: &mut Hints)
         text,
         device: None,
         command: None,
+        ignored: items(table, "ignore").unwrap_or(&[]),
+        pages: 1,
     };
     let Some(number) = fault.device else {
         top_hint(place.keys_of(table, &[]), fault.what, lines);
@@ -59,6 +61,7 @@ fn table_hint(text: &str, table: &Table, fault: ProfileFault, lines: &mut Hints)
         let _ = lines.try_push_str(EACH_DEVICE);
         return;
     };
+    place.pages = pages_of(device);
     match fault.command {
         None => device_hint(place.keys_of(device, before), fault.what, lines),
         Some(number) => {
@@ -87,8 +90,21 @@ fn in_command(
     }
 }
 
+/// How many pages a device has.
+fn pages_of(device: &Table) -> i64 {
+    match device.get("pages") {
+        Some(pages) => pages.as_integer().unwrap_or(1),
+        None => 1,
+    }
+}
+
+/// The items of the array that a key has.
+fn items<'a>(table: &'a Table, key: &str) -> Option<&'a [Value]> {
+    Some(table.get(key)?.as_array()?.as_slice())
+}
+
 /// An item of the array that a key has, and those before it.
 fn item<'a>(table: &'a Table, key: &str, number: usize) -> Option<(&'a Value, &'a [Value])> {
-    let items = table.get(key)?.as_array()?.as_slice();
+    let items = items(table, key)?;
     Some((items.get(number)?, items.get(..number)?))
 }

@@ -9,8 +9,9 @@ use crate::coded::{address_twice, code_twice, name_hint};
 use crate::forms::form_hint;
 use crate::initial::initial_hint;
 use crate::keyed::Keyed;
-use crate::keys::{missing_code, missing_key, unknown_key, wrong_type};
+use crate::keys::{missing_code, missing_key, no_array, unknown_key, wrong_type};
 use crate::lines::Hints;
+use crate::lists::{address_ignored, ignored_hint, modes_hint};
 use crate::numbers::{address_hint, many_hint, out_of_range, unknown_word};
 use crate::words::{
     BEFORE_DIRECT, CALL, COEFFICIENTS, COMMAND, DEVICE, KIND, PEC, READ, TOP, WRITE, Words,
@@ -52,8 +53,16 @@ enum Mistake {
     UnknownName,
     /// The forms don't go together.
     Forms,
-    /// The bytes at first are not those of the form.
+    /// The bytes at first are not those of the form, or not given for each page.
     Initial,
+    /// A key is there and has no array, with the line that is written of it.
+    NoArray(&'static str, &'static str),
+    /// An ignored address is none of seven bits.
+    Ignored,
+    /// The address of a device is ignored.
+    AddressIgnored,
+    /// A list of VOUT_MODE has not one for each page, or different ones where there is one for all.
+    Modes,
     /// Whatever the keys are, this line is written.
     Always(&'static str),
 }
@@ -73,7 +82,12 @@ const NO_DEVICE: &[Mistake] = &[Mistake::Always(
 
 const UNKNOWN_AT_TOP: &[Mistake] = &[Mistake::UnknownKey(TOP)];
 
-const NO_ARRAY_OF_DEVICES: &[Mistake] = &[Mistake::Always(EACH_DEVICE)];
+const TYPES_AT_TOP: &[Mistake] = &[
+    Mistake::NoArray("device", EACH_DEVICE),
+    Mistake::WrongType(&["ignore"]),
+];
+
+const VALUES_AT_TOP: &[Mistake] = &[Mistake::Ignored];
 
 const TOO_MANY_DEVICES: &[Mistake] = &[Mistake::TooManyDevices];
 
@@ -85,9 +99,22 @@ const MISSING_OF_DEVICE: &[Mistake] = &[Mistake::MissingKey(&["address", "pec"])
 const TYPES_OF_DEVICE: &[Mistake] = &[Mistake::WrongType(BEFORE_DIRECT)];
 
 const VALUES_OF_DEVICE: &[Mistake] = &[
+    Mistake::AddressIgnored,
     Mistake::UnknownWord("pec", PEC),
     Mistake::OutOfRange("vout_mode", 0, 255),
+    Mistake::Modes,
 ];
+
+/// What is wrong with the types of the keys after `vout_direct`.
+const TYPES_AFTER_DIRECT: &[Mistake] = &[
+    Mistake::NoArray("command", EACH_COMMAND),
+    Mistake::WrongType(&["name"]),
+];
+
+const NAME_OF_DEVICE: &[Mistake] = &[Mistake::Key(
+    "name",
+    "a name of a device is 1 to 32 characters of ASCII, from the blank to ~",
+)];
 
 const ADDRESS: &[Mistake] = &[Mistake::Address];
 
@@ -163,7 +190,8 @@ fn rows_of_top(what: FaultKind) -> &'static [Mistake] {
     match what {
         FaultKind::UnknownKey => UNKNOWN_AT_TOP,
         FaultKind::MissingKey => NO_DEVICE,
-        FaultKind::WrongType => NO_ARRAY_OF_DEVICES,
+        FaultKind::WrongType => TYPES_AT_TOP,
+        FaultKind::BadValue => VALUES_AT_TOP,
         FaultKind::TooManyDevices => TOO_MANY_DEVICES,
         _ => &[],
     }
@@ -179,6 +207,7 @@ fn rows_of_device(what: FaultKind) -> &'static [Mistake] {
         FaultKind::BadAddress => ADDRESS,
         FaultKind::AddressTwice => ADDRESS_TWICE,
         FaultKind::BadPages => PAGES,
+        FaultKind::BadName => NAME_OF_DEVICE,
         _ => &[],
     }
 }
@@ -246,6 +275,10 @@ impl Mistake {
             Mistake::UnknownName => name_hint(keyed, lines),
             Mistake::Forms => form_hint(keyed, lines),
             Mistake::Initial => initial_hint(keyed, lines),
+            Mistake::NoArray(key, line) => no_array(keyed, key, line, lines),
+            Mistake::Ignored => ignored_hint(keyed, lines),
+            Mistake::AddressIgnored => address_ignored(keyed, lines),
+            Mistake::Modes => modes_hint(keyed, lines),
             Mistake::Always(line) => lines.try_push_str(line).is_ok(),
             _ => false,
         }
@@ -278,7 +311,7 @@ pub(crate) fn device_hint(keyed: Keyed<'_>, what: FaultKind, lines: &mut Hints) 
         }
     }
     if what == FaultKind::WrongType {
-        let _ = lines.try_push_str(EACH_COMMAND);
+        let _ = first_of(TYPES_AFTER_DIRECT, keyed, lines);
     }
 }
 

@@ -53,8 +53,15 @@ module _ {R W : Type 0} (told : W → WriterTold) (job : Job Tally) (input : Lis
   works (Err tool.Memory) ran = absurd ran
   works (Err tool.ProfileTooLong) ran = absurd ran
 
+  -- the same, where it was the job that is wanted
+  pub works_as : (wanted : Job Tally) → job ≡ wanted → (result : Result Tally ToolFault)
+      → AsTool (Ran (λ (r : R). none) told job input (r0, old) (r1, new)) result
+      → WorksUnder told wanted input old new (whole_of result)
+  works_as wanted same result ran = subst (λ (j : Job Tally). WorksUnder told j input old new (whole_of result)) same
+      (works result ran)
+
   -- or there was no memory, and nothing was written
-  pub works_or_memory : (result : Result Tally ToolFault)
+  works_or_memory : (result : Result Tally ToolFault)
       → OrNoMemory ((r1 ≡ r0) × (new ≡ old)) (AsTool (Ran (λ (r : R). none) told job input (r0, old) (r1, new))) result
       → WorksUnder told job input old new (whole_of result)
   works_or_memory (Ok tally) ran = works (Ok tally) ran
@@ -63,3 +70,9 @@ module _ {R W : Type 0} (told : W → WriterTold) (job : Job Tally) (input : Lis
   works_or_memory (Err tool.TooManyReads) ran = works (Err tool.TooManyReads) ran
   works_or_memory (Err tool.ProfileTooLong) ran = works (Err tool.ProfileTooLong) ran
   works_or_memory (Err tool.Memory) ran = ran.1
+
+  pub works_or_memory_as : (wanted : Job Tally) → job ≡ wanted → (result : Result Tally ToolFault)
+      → OrNoMemory ((r1 ≡ r0) × (new ≡ old)) (AsTool (Ran (λ (r : R). none) told job input (r0, old) (r1, new))) result
+      → WorksUnder told wanted input old new (whole_of result)
+  works_or_memory_as wanted same result ran =
+      subst (λ (j : Job Tally). WorksUnder told j input old new (whole_of result)) same (works_or_memory result ran)

@@ -6,3 +6,4 @@ pub mod Put
 pub mod Laid
 pub mod Room
 pub mod Import
+pub mod Json

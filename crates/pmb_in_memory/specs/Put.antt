@@ -1,29 +1,29 @@
 -- A text put into a room.
 use Rattle.std.specs.Prelude.{◌≡◌, ℕ, Result, Ok, Err, List, length}
-use Rattle.pmb_command.specs.Parts.{DeviceParts}
 use Rattle.pmb_io.specs.Count.{capped}
 use Rattle.pmb_io.specs.Runs.{Job}
 use Rattle.pmb_io.specs.declared.tally.Tally.{Tally}
+use Rattle.pmb_table.specs.Profile.{ProfileParts}
 use Rattle.pmb_in_memory.specs.Laid.{laid}
-use Rattle.pmb_in_memory.specs.Profile.{HasDevices, HasFault}
+use Rattle.pmb_in_memory.specs.Profile.{HasBus, HasFault}
 use Rattle.pmb_in_memory.specs.Whole.{IsText}
 use Rattle.pmb_in_memory.specs.declared.fault.WholeFault.{WholeFault}
 use Rattle.pmb_in_memory.specs.declared.fault.WholeFault.TheVariants.{Profile, Memory, Write}
 use Rattle.pmb_in_memory.specs.declared.put.Put.{Put}
 
--- Under the devices of a profile's text the job's text for an input stands in the room, as far as it
--- fits, and its length is told.
-pub record PutWhole (job : List DeviceParts → Job Tally) (profile input before after : List ℕ)
+-- Under the bus of a profile's text the job's text for an input stands in the room, as far as it fits,
+-- and its length is told.
+pub record PutWhole (job : ProfileParts → Job Tally) (profile input before after : List ℕ)
     (put : Put) : Type 0 where
-  pub devices : List DeviceParts
+  pub bus : ProfileParts
   pub text : List ℕ
-  pub of_profile : HasDevices profile devices
-  pub is_text : IsText (job devices) put.tally input text
+  pub of_profile : HasBus profile bus
+  pub is_text : IsText (job bus) put.tally input text
   pub room : after ≡ laid text before
   pub told : put.length ≡ capped (length text)
 
 -- the same, or the room stays: the profile's text has a fault, or there was no memory
-abbrev pub Puts : (List DeviceParts → Job Tally) → List ℕ → List ℕ → List ℕ → List ℕ → Result Put WholeFault → Type 0
+abbrev pub Puts : (ProfileParts → Job Tally) → List ℕ → List ℕ → List ℕ → List ℕ → Result Put WholeFault → Type 0
 Puts job profile input before after (Ok put) = PutWhole job profile input before after put
 Puts job profile input before after (Err (Profile fault)) = HasFault profile fault × (after ≡ before)
 Puts job profile input before after (Err Memory) = after ≡ before

@@ -1,12 +1,12 @@
 -- What is written of a whole input.
 use Rattle.std.specs.Prelude.{◌≡◌, ◌⊎◌, ℕ, Result, Ok, Err, List}
 use Rattle.std.specs.Io.KnownBytes.{Appends}
-use Rattle.pmb_command.specs.Parts.{DeviceParts}
 use Rattle.pmb_io.specs.Count.{raised}
 use Rattle.pmb_io.specs.Runs.{Job}
 use Rattle.pmb_io.specs.Told.{WriterTold}
 use Rattle.pmb_io.specs.declared.tally.Tally.{Tally}
-use Rattle.pmb_in_memory.specs.Profile.{HasDevices, HasFault}
+use Rattle.pmb_table.specs.Profile.{ProfileParts}
+use Rattle.pmb_in_memory.specs.Profile.{HasBus, HasFault}
 use Rattle.pmb_in_memory.specs.declared.fault.WholeFault.{WholeFault}
 use Rattle.pmb_in_memory.specs.declared.fault.WholeFault.TheVariants.{Profile, Memory, Write}
 
@@ -23,11 +23,11 @@ module _ {W : Type 0} (told : W → WriterTold) where
     pub none_failed : (told new).failures ≡ (told old).failures
 
   -- The same under a profile's text.
-  pub record WroteWhole (job : List DeviceParts → Job Tally) (profile input : List ℕ) (old new : W)
+  pub record WroteWhole (job : ProfileParts → Job Tally) (profile input : List ℕ) (old new : W)
       (tally : Tally) : Type 0 where
-    pub devices : List DeviceParts
-    pub of_profile : HasDevices profile devices
-    pub wrote : Wrote (job devices) input old new tally
+    pub bus : ProfileParts
+    pub of_profile : HasBus profile bus
+    pub wrote : Wrote (job bus) input old new tally
 
   -- the writer failed where it answers `Write`; nothing was written where it answers `Memory`
   abbrev pub WorksUnder : Job Tally → List ℕ → W → W → Result Tally WholeFault → Type 0
@@ -37,7 +37,7 @@ module _ {W : Type 0} (told : W → WriterTold) where
   WorksUnder job input old new (Err Write) = (told new).failures ≡ raised (told old).failures 1
 
   -- the same under a profile's text; nothing was written where that has a fault
-  abbrev pub WorksOn : (List DeviceParts → Job Tally) → List ℕ → List ℕ → W → W → Result Tally WholeFault → Type 0
+  abbrev pub WorksOn : (ProfileParts → Job Tally) → List ℕ → List ℕ → W → W → Result Tally WholeFault → Type 0
   WorksOn job profile input old new (Ok tally) = WroteWhole job profile input old new tally
   WorksOn job profile input old new (Err (Profile fault)) = HasFault profile fault × (new ≡ old)
   WorksOn job profile input old new (Err Memory) = new ≡ old

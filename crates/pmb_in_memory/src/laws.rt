@@ -7,6 +7,7 @@ ghost use Rattle.pmb_io.specs.declared.tally.Tally.{Tally};
 ghost use Rattle.pmb_json.specs.Json.{json_job};
 ghost use Rattle.pmb_scan.specs.declared.after_bad_token.AfterBadToken.{AfterBadToken};
 ghost use Rattle.pmb_json_stream.specs.Choice.{ChoiceData};
+ghost use Rattle.pmb_table.specs.Profile.{ProfileParts};
 ghost use Rattle.pmb_in_memory.specs.Whole.{IsText};
 ghost use Rattle.pmb_in_memory.specs.MemoryTask.{working};
 ghost use Rattle.pmb_in_memory.specs.declared.memory_task.MemoryTask.{MemoryTask};
@@ -19,8 +20,8 @@ use pmb_run::laws::one_running;
 /// The text of an input and its tally are functions of the input, under a profile that is accepted.
 /// So what is written of a whole input is what the subcommand writes that reads it in pieces.
 pub fn one_text()
-    ensures work { (work : MemoryTask) (devices : List DeviceParts) (input a b : List ℕ) (s t : Tally) → IsBus devices
-        → IsText (working work devices) s input a → IsText (working work devices) t input b → (a ≡ b) × (s ≡ t) }
+    ensures work { (work : MemoryTask) (bus : ProfileParts) (input a b : List ℕ) (s t : Tally) → IsBus bus.devices
+        → IsText (working work bus) s input a → IsText (working work bus) t input b → (a ≡ b) × (s ≡ t) }
     ensures json { (choice : ChoiceData) (after : AfterBadToken) (devices : List DeviceParts) (input a b : List ℕ) (s t : Tally) → IsBus devices
         → IsText (json_job choice devices after) s input a → IsText (json_job choice devices after) t input b → (a ≡ b) × (s ≡ t) }
 {

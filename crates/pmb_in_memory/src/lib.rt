@@ -22,6 +22,7 @@
 
 mod buffer_id;
 mod fault;
+mod json_choice;
 pub mod laws;
 mod memory_task;
 mod put;
@@ -33,6 +34,7 @@ mod written;
 
 pub use buffer_id::BufferId;
 pub use fault::WholeFault;
+pub use json_choice::JsonChoice;
 pub use memory_task::MemoryTask;
 pub use put::Put;
 pub use recordings::{put_import, write_import};

@@ -4,22 +4,18 @@
 //! `requests.txt`, `json_objects.txt`.
 
 ghost use Rattle.std.specs.Prelude.{◌≡◌};
-ghost use Rattle.pmb_json.specs.Json.{json_job};
-ghost use Rattle.pmb_json_stream.specs.Choice.{choice_data};
 ghost use Rattle.pmb_in_memory.specs.Put.{Puts, put_of};
+ghost use Rattle.pmb_in_memory.specs.Json.{telling};
 ghost use Rattle.pmb_in_memory.specs.MemoryTask.{working};
 
 use crate::buffer_id::BufferId;
 use crate::fault::WholeFault;
+use crate::json_choice::JsonChoice;
 use crate::memory_task::MemoryTask;
 use crate::put::{Put, put_of};
 use crate::room::{Filled, Room};
 use crate::whole::{write_json, write_whole};
-use pmb_decimal::Digits;
 use pmb_io::Tally;
-use pmb_json::AfterBadToken;
-use pmb_json_stream::Choice;
-use pmb_unknown_start::Start;
 use std::alloc::Global;
 use std::marker::Brand;
 
@@ -45,30 +41,24 @@ pub fn put_whole(
 }
 
 /// Puts the objects of a capture under a profile, each as a line of JSON, at the start of a room,
-/// as far as they fit; what stands after them stays. Nothing but the profile takes memory.
+/// as far as they fit; what stands after them stays. Those of devices at these addresses are wanted,
+/// of seven bits each, and of all devices where there is none. Nothing but the profile takes memory.
 ///
 /// # Errors
 ///
 /// `Profile` where the profile's text has a fault. `Memory` where there was none. The room stays as
 /// it was then.
-pub fn put_json<'c>(
-    choice: Choice<'c>,
-    bad_words: AfterBadToken,
+pub fn put_json(
+    choice: JsonChoice,
+    devices: &[u8],
     alloc: Global,
     profile: &[u8],
     capture: &[u8],
     room: &mut [u8],
 ) -> Result<Put, WholeFault>
-    ensures { Puts (λ devices. json_job (choice_data choice.entry) devices bad_words) profile.now capture.now room.old room.new result }
+    ensures { Puts (telling choice devices.now) profile.now capture.now room.old room.new result }
 {
-    let Choice {
-        digits,
-        start,
-        devices,
-    } = choice;
-    let ended = put_json_at::<Brand>(
-        digits, start, devices, bad_words, alloc, profile, capture, room,
-    );
+    let ended = put_json_at::<Brand>(choice, devices, alloc, profile, capture, room);
     put_of(ended.length, ended.outcome)
 }
 
@@ -105,10 +95,8 @@ fn put_whole_at<'r, P: BufferId>(
 
 /// Puts the objects of a capture into the room of a place.
 fn put_json_at<'r, P: BufferId>(
-    digits: Digits,
-    start: Start,
+    choice: JsonChoice,
     devices: &[u8],
-    bad_words: AfterBadToken,
     alloc: Global,
     profile: &[u8],
     capture: &[u8],
@@ -117,15 +105,10 @@ fn put_json_at<'r, P: BufferId>(
     requires same { room.ghost_name ≡ P.name }
     requires before { room.old ≡ P.before }
     ensures same { result.room.ghost_name ≡ room.entry.ghost_name }
-    ensures puts { Puts (λ bus. json_job (record { digits = digits; start = start; devices = devices.now }) bus bad_words) profile.now capture.now room.old result.room.now (put_of result.length result.outcome) }
+    ensures puts { Puts (telling choice devices.now) profile.now capture.now room.old result.room.now (put_of result.length result.outcome) }
 {
     let mut writer: Room<'r, P> = Room::new(room);
-    let choice = Choice {
-        digits,
-        start,
-        devices,
-    };
-    let outcome = write_json(choice, bad_words, alloc, profile, capture, &mut writer);
+    let outcome = write_json(choice, devices, alloc, profile, capture, &mut writer);
     let Filled { room, count } = writer.into_filled();
     Ended {
         room,

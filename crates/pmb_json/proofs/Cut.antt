@@ -3,73 +3,47 @@
 -- (`onwards`), then for a piece that begins after a cut (`cut`). Events of the piece are counted
 -- from the cut, so its spans are moved; what transactions before the cut tell is known in the whole
 -- alone.
-use Rattle.std.proofs.Common.{◌≡◌, ℕ, ◌+◌, Bool, true, cond, List, [], ◌∷◌, ◌++◌, codes, filter, length, take, refl}
+use Rattle.std.proofs.Common.{◌≡◌, ℕ, ◌+◌, ◌-◌, true, Option, List, [], ◌∷◌, ◌++◌, filter}
+use Rattle.std.proofs.Common.{length, refl}
 use Rattle.std.proofs.Common.{sym, ◌∙◌, ap, subst, append_assoc, length-append, arith}
 use Rattle.std.specs.List.{All}
-use Rattle.std.proofs.lemmas.List.Elements.{All-head, All-tail, filter-append}
+use Rattle.std.proofs.lemmas.List.Elements.{filter-append}
 use Rattle.pmb_bus.specs.declared.event.Event.{Event}
-use Rattle.pmb_bus.specs.Text.{EndsBetween, FirstBadWord, Spells}
+use Rattle.pmb_bus.specs.Text.{EndsBetween, FirstBadWord, Spells, front_word}
 use Rattle.pmb_command.specs.Parts.{DeviceParts}
 use Rattle.pmb_unknown_start.specs.declared.start.Start.{Start}
 use Rattle.pmb_unknown_start.specs.declared.start.Start.TheVariants.{AllKnown}
-use Rattle.pmb_json_text.specs.Json.{string}
-use Rattle.pmb_json_text.specs.Member.{named}
-use Rattle.pmb_places.specs.declared.places.Place.{Place}
-use Rattle.pmb_spans.specs.Spans.{Span, Spans, SpansFrom, ReadSpan, RefusedSpan, TruncatedSpan, is_whole, moved_spans}
+use Rattle.pmb_spans.specs.Spans.{Span, Spans, SpansFrom, is_whole, moved_spans}
 use Rattle.pmb_transaction.specs.Cut.{EndsWithStop}
 use Rattle.pmb_transaction.specs.Transaction.{TransactionData}
 use Rattle.pmb_scan.specs.declared.after_bad_token.AfterBadToken.{AfterBadToken}
 use Rattle.pmb_scan.specs.declared.after_bad_token.AfterBadToken.TheVariants.{End, Continue}
-use Rattle.pmb_json_objects.specs.BadToken.{bad_token_object}
 use Rattle.pmb_json_stream.specs.Before.{Before, at_first}
 use Rattle.pmb_json_stream.specs.Choice.{ChoiceData}
+use Rattle.pmb_json_stream.specs.Others.{is_told}
 use Rattle.pmb_json_objects.specs.Counts.{CountsData, nothing_counted}
 use Rattle.pmb_json_objects.specs.Object.{Object}
-use Rattle.pmb_json.specs.Pieces.{CanBeCutBehind, EachSaysNoMore, SaysNoMore}
-use Rattle.pmb_json_stream.specs.Spans.{after_spans, event_place, span_objects, transactions_in}
-use Rattle.pmb_json.specs.Text.{BadLine, GoesOn, ObjectsFrom, bad_line_objects, behind_line, front_objects, word_object}
-use Rattle.pmb_json.proofs.Objects.{objects_append, transactions_moved, whole_moved}
-use Rattle.pmb_json.proofs.Pieces.{Agree, both, head_said, pairs_append, same, spans_said}
+use Rattle.pmb_json.specs.Pieces.{CanBeCutBehind, EachSaysNoMore, Timing}
+use Rattle.pmb_json_stream.specs.Spans.{after_spans, event_place, event_time, transactions_in}
+use Rattle.pmb_json_stream.specs.UnderWay.{open_time}
+use Rattle.pmb_times.specs.Times.{time_at}
+use Rattle.pmb_json.specs.Text.{BadLine, GoesOn, ObjectsFrom, bad_line_objects, behind_line, front_objects}
+use Rattle.pmb_json.specs.Text.{text_objects, word_head, word_object}
+use Rattle.pmb_json.proofs.PieceMembers.{TellEach, Tells}
+use Rattle.pmb_json.proofs.PieceTimes.{open_tells, piece_tells, tells_same}
+use Rattle.pmb_json.proofs.Objects.{all_told, objects_append, told_moved, transactions_append, transactions_moved}
+use Rattle.pmb_json.proofs.Pieces.{Agree, pairs_append, spans_said, token_said}
 
--- ---- spans
-
--- spans that are whole are all kept
-all_whole : (spans : List Span) → All (λ span. is_whole span ≡ true) spans → filter is_whole spans ≡ spans
-all_whole [] whole = refl
-all_whole (span ∷ spans) whole =
-    let rest = all_whole spans (All-tail (λ (s : Span). is_whole s ≡ true) span spans whole) in
-    ap (λ (b : Bool). cond b (span ∷ filter is_whole spans) (filter is_whole spans))
-    (All-head (λ (s : Span). is_whole s ≡ true) span spans whole)
-    ∙ ap (λ (l : List Span). span ∷ l) rest
-
--- the transactions of two lists of spans
-transactions_append : (a b : List Span) → transactions_in (a ++ b) ≡ transactions_in a ++ transactions_in b
-transactions_append [] b = refl
-transactions_append (ReadSpan m events t ∷ a) b = ap (λ (ts : List TransactionData). t ∷ ts) (transactions_append a b)
-transactions_append (RefusedSpan m front event refusal ∷ a) b = transactions_append a b
-transactions_append (TruncatedSpan m front refusal ∷ a) b = transactions_append a b
-
--- ---- a bad word
-
--- its object
-token_said : (at next : ℕ) (place there : Place) (word : List ℕ)
-    → SaysNoMore (bad_token_object at place word) (bad_token_object next there word)
-token_said at next place there word = record {
-  device = refl;
-  members = both (head_said at next place there (codes "bad_token"))
-      (same (named (codes "word") (string (take 32 word)) ∷ []));
-}
-
-module _ (places : ℕ) (profile : List DeviceParts) (devices : List ℕ) (late : Start) (m : ℕ)
-    (before : List TransactionData)
+module _ (timing : Timing) (places : ℕ) (profile : List DeviceParts) (devices : List ℕ) (ignored : Option (List ℕ))
+    (late : Start) (m : ℕ) (before : List TransactionData)
     (agree : (ts : List TransactionData) → Agree profile late AllKnown ts (before ++ ts))
     (spans_move : (n k : ℕ) (events : List Event) (spans : List Span) → SpansFrom profile k events spans
     → SpansFrom profile (n + k) events (moved_spans n spans)) where
   abbrev piece : ChoiceData
-  piece = record { digits = places; start = late; devices = devices }
+  piece = record { digits = places; start = late; devices = devices; ignored = ignored }
 
   abbrev whole : ChoiceData
-  whole = record { digits = places; start = AllKnown; devices = devices }
+  whole = record { digits = places; start = AllKnown; devices = devices; ignored = ignored }
 
   -- where the piece stands and where the whole does, with m events and some transactions before the
   -- piece
@@ -86,11 +60,20 @@ module _ (places : ℕ) (profile : List DeviceParts) (devices : List ℕ) (late 
       (sym (append_assoc before b.ts ts) ∙ ap (λ (l : List TransactionData). l ++ ts) (sym beside.ts))
       (agree (b.ts ++ ts))
 
-  spans_beside : (b w : Before) → Beside b w → (place there : ℕ → Place) (spans : List Span)
-      → EachSaysNoMore (span_objects piece profile place b.ts spans)
-      (span_objects whole profile there w.ts (moved_spans m spans))
-  spans_beside b w beside place there spans =
-      spans_said places profile devices devices late AllKnown place there m spans b.ts w.ts (agree_there b w beside)
+  -- the same bytes tell the same times
+  times_beside : (b w : Before) → Beside b w → (bytes : List ℕ)
+      → TellEach timing m (event_time b.n bytes) (event_time w.n bytes)
+  times_beside b w beside bytes at =
+      let same : (m + at) - w.n ≡ at - b.n = omega (arith, beside.n) in
+      tells_same timing (time_at bytes (at - b.n)) (time_at bytes ((m + at) - w.n)) (ap (time_at bytes) same)
+
+  spans_beside : (b w : Before) → Beside b w → (bytes : List ℕ) (spans : List Span)
+      → EachSaysNoMore timing (text_objects piece profile b bytes b.ts spans)
+      (text_objects whole profile w bytes w.ts (moved_spans m spans))
+  spans_beside b w beside bytes spans =
+      spans_said timing places profile devices ignored late AllKnown (event_place b.read b.n bytes)
+      (event_place w.read w.n bytes) (event_time b.n bytes) (event_time w.n bytes) m spans b.ts w.ts
+      (times_beside b w beside bytes) (agree_there b w beside)
 
   reads_beside : (b w : Before) → Beside b w → (events : List Event) (spans : List Span)
       → SpansFrom profile b.n events spans
@@ -106,7 +89,7 @@ module _ (places : ℕ) (profile : List DeviceParts) (devices : List ℕ) (late 
     others : List Object
     counts : CountsData
     from_there : ObjectsFrom whole profile after w bytes bad others counts
-    no_more : EachSaysNoMore objects others
+    no_more : EachSaysNoMore timing objects others
 
   -- .. and after a bad line
   record OthersBehind (after : AfterBadToken) (w : Before) (line : BadLine) (rest : List ℕ)
@@ -115,32 +98,33 @@ module _ (places : ℕ) (profile : List DeviceParts) (devices : List ℕ) (late 
     more : List BadLine
     others : List Object
     counts : CountsData
-    behind : GoesOn after rest (λ bytes. ObjectsFrom whole profile after (behind_line w line) bytes more others counts)
-        ((more ≡ []) × (others ≡ []) × (counts ≡ (behind_line w line).counts))
-    no_more : EachSaysNoMore objects others
+    behind : GoesOn after rest
+        (λ bytes. ObjectsFrom whole profile after (behind_line ignored w line) bytes more others counts)
+        ((more ≡ []) × (others ≡ []) × (counts ≡ (behind_line ignored w line).counts))
+    no_more : EachSaysNoMore timing objects others
 
   others_behind : (after : AfterBadToken) (b w : Before) (x y : BadLine) (rest : List ℕ) (more : List BadLine)
       (objects : List Object) (c : CountsData)
-      → ((bytes : List ℕ) → ObjectsFrom piece profile Continue (behind_line b x) bytes more objects c
-      → Others Continue (behind_line w y) bytes objects)
-      → GoesOn after rest (λ bytes. ObjectsFrom piece profile after (behind_line b x) bytes more objects c)
-      ((more ≡ []) × (objects ≡ []) × (c ≡ (behind_line b x).counts))
+      → ((bytes : List ℕ) → ObjectsFrom piece profile Continue (behind_line ignored b x) bytes more objects c
+      → Others Continue (behind_line ignored w y) bytes objects)
+      → GoesOn after rest (λ bytes. ObjectsFrom piece profile after (behind_line ignored b x) bytes more objects c)
+      ((more ≡ []) × (objects ≡ []) × (c ≡ (behind_line ignored b x).counts))
       → OthersBehind after w y rest objects
   -- reading ends at the bad line, in both
   others_behind End b w x y rest more objects c later goes = record {
     more = [];
     others = [];
-    counts = (behind_line w y).counts;
+    counts = (behind_line ignored w y).counts;
     behind = (refl, refl, refl);
-    no_more = subst (λ (os : List Object). EachSaysNoMore os []) (sym goes.1) tt;
+    no_more = subst (λ (os : List Object). EachSaysNoMore timing os []) (sym goes.1) tt;
   }
   -- nothing follows it, in both
   others_behind Continue b w x y [] more objects c later goes = record {
     more = [];
     others = [];
-    counts = (behind_line w y).counts;
+    counts = (behind_line ignored w y).counts;
     behind = (refl, refl, refl);
-    no_more = subst (λ (os : List Object). EachSaysNoMore os []) (sym goes.1) tt;
+    no_more = subst (λ (os : List Object). EachSaysNoMore timing os []) (sym goes.1) tt;
   }
   -- its LF follows, and both read on
   others_behind Continue b w x y (lf ∷ bytes) more objects c later goes =
@@ -155,7 +139,7 @@ module _ (places : ℕ) (profile : List DeviceParts) (devices : List ℕ) (late 
       }
 
   line_beside : (b w : Before) → Beside b w → (bad : BadLine)
-      → Beside (behind_line b bad) (behind_line w
+      → Beside (behind_line ignored b bad) (behind_line ignored w
       (record { front = bad.front; events = bad.events; spans = moved_spans m bad.spans; line = bad.line }))
   line_beside b w beside bad = record {
     n = omega (arith, beside.n);
@@ -170,8 +154,8 @@ module _ (places : ℕ) (profile : List DeviceParts) (devices : List ℕ) (late 
   -- no bad line is left: the events that are left, moved
   onwards after [] b w beside bytes objects c x = record {
     bad = [];
-    others = span_objects whole profile (event_place w.read w.n bytes) w.ts (moved_spans m x.spans);
-    counts = after_spans w.counts (moved_spans m x.spans);
+    others = text_objects whole profile w bytes w.ts (moved_spans m x.spans);
+    counts = after_spans ignored w.counts (moved_spans m x.spans);
     from_there = record {
       events = x.events;
       spans = moved_spans m x.spans;
@@ -180,9 +164,9 @@ module _ (places : ℕ) (profile : List DeviceParts) (devices : List ℕ) (late 
       all = refl;
       behind = refl;
     };
-    no_more = subst (λ (os : List Object). EachSaysNoMore os
-        (span_objects whole profile (event_place w.read w.n bytes) w.ts (moved_spans m x.spans))) (sym x.all)
-        (spans_beside b w beside (event_place b.read b.n bytes) (event_place w.read w.n bytes) x.spans);
+    no_more = subst (λ (os : List Object). EachSaysNoMore timing os
+        (text_objects whole profile w bytes w.ts (moved_spans m x.spans))) (sym x.all)
+        (spans_beside b w beside bytes x.spans);
   }
   -- a bad line: its events are moved, then the rest of both after it
   onwards after (bad ∷ more) b w beside bytes objects c x =
@@ -197,7 +181,8 @@ module _ (places : ℕ) (profile : List DeviceParts) (devices : List ℕ) (late 
       -- ends there (3) and is bad (4), its objects (5), and how reading goes on (6)
       let line = x.4 in
       let there = others_behind after b w bad moved x.0 more x.1 c
-      (λ next y. onwards Continue more (behind_line b bad) (behind_line w moved) (line_beside b w beside bad) next x.1 c y)
+      (λ next y. onwards Continue more (behind_line ignored b bad) (behind_line ignored w moved)
+      (line_beside b w beside bad) next x.1 c y)
       x.6 in record {
         bad = moved ∷ there.more;
         others = bad_line_objects whole profile w moved ++ there.others;
@@ -213,30 +198,33 @@ module _ (places : ℕ) (profile : List DeviceParts) (devices : List ℕ) (late 
             in_line = line.in_line;
             all = moved_spans m line.all;
             reads = reads_beside b w beside bad.events line.all line.reads;
-            reported = ap (moved_spans m) line.reported ∙ sym (whole_moved m line.all);
+            reported = ap (moved_spans m) line.reported ∙ sym (told_moved ignored m line.all);
           },
           refl,
           there.behind,
         );
         -- its objects say no more than the whole's, and so do those after it
-        no_more = subst (λ (os : List Object). EachSaysNoMore os
+        no_more = subst (λ (os : List Object). EachSaysNoMore timing os
             (bad_line_objects whole profile w moved ++ there.others)) (sym x.5)
             (
-            pairs_append (bad_line_objects piece profile b bad) (bad_line_objects whole profile w moved) x.1
+            pairs_append timing (bad_line_objects piece profile b bad) (bad_line_objects whole profile w moved) x.1
             there.others
-            (pairs_append (front_objects piece profile b bad) (front_objects whole profile w moved)
+            (pairs_append timing (front_objects piece profile b bad) (front_objects whole profile w moved)
             (word_object piece profile b bad ∷ []) (word_object whole profile w moved ∷ [])
-            (spans_beside b w beside (event_place b.read b.n (bad.front ++ bad.line))
-            (event_place w.read w.n (bad.front ++ bad.line)) bad.spans)
-            (token_said _ _ _ _ _, tt))
+            (spans_beside b w beside (bad.front ++ bad.line) bad.spans) (
+              token_said timing (word_head b bad) (word_head w moved)
+                  (tells_same timing (open_time bad.front bad.events) (open_time bad.front bad.events) refl)
+                  (front_word bad.line),
+              tt,
+            ))
             there.no_more
             );
       }
 
 -- ---- cut after a first piece
 
-module _ (places : ℕ) (profile : List DeviceParts) (devices : List ℕ) (late : Start) (front : List ℕ)
-    (first : CanBeCutBehind profile late front)
+module _ (timing : Timing) (places : ℕ) (profile : List DeviceParts) (devices : List ℕ) (ignored : Option (List ℕ))
+    (late : Start) (front : List ℕ) (first : CanBeCutBehind profile late front)
     (agree : (ts : List TransactionData) → Agree profile late AllKnown ts (transactions_in first.spans ++ ts))
     (spans_move : (n k : ℕ) (events : List Event) (spans : List Span) → SpansFrom profile k events spans
     → SpansFrom profile (n + k) events (moved_spans n spans))
@@ -248,7 +236,9 @@ module _ (places : ℕ) (profile : List DeviceParts) (devices : List ℕ) (late 
     (joined : (x y : List Event) (spans others : List Span) → EndsWithStop x → Spans profile x spans
     → Spans profile y others
     → Spans profile (x ++ y) (spans ++ moved_spans (length x) others))
-    (whole_first : All (λ span. is_whole span ≡ true) first.spans) where
+    (whole_first : All (λ span. is_whole span ≡ true) first.spans)
+    (tells : (back : List ℕ) (k : ℕ) → Tells timing (time_at back k)
+    (time_at (front ++ back) (length first.events + k))) where
   abbrev m : ℕ
   m = length first.events
 
@@ -256,10 +246,10 @@ module _ (places : ℕ) (profile : List DeviceParts) (devices : List ℕ) (late 
   before = transactions_in first.spans
 
   abbrev pub late_choice : ChoiceData
-  late_choice = record { digits = places; start = late; devices = devices }
+  late_choice = record { digits = places; start = late; devices = devices; ignored = ignored }
 
   abbrev pub known_choice : ChoiceData
-  known_choice = record { digits = places; start = AllKnown; devices = devices }
+  known_choice = record { digits = places; start = AllKnown; devices = devices; ignored = ignored }
 
   -- the whole has objects, and the last of them say no less
   pub record WholeOthers (after : AfterBadToken) (bytes : List ℕ) (objects : List Object) : Type 0 where
@@ -269,7 +259,7 @@ module _ (places : ℕ) (profile : List DeviceParts) (devices : List ℕ) (late 
     pub others : List Object
     pub counts : CountsData
     pub from_first : ObjectsFrom known_choice profile after at_first bytes bad (firsts ++ others) counts
-    pub no_more : EachSaysNoMore objects others
+    pub no_more : EachSaysNoMore timing objects others
 
   -- a bad line of the rest as it is in the whole
   abbrev in_whole : BadLine → BadLine
@@ -297,16 +287,17 @@ module _ (places : ℕ) (profile : List DeviceParts) (devices : List ℕ) (late 
       ∙ sym (append_assoc front (bad.front ++ bad.line) rest)
       ∙ ap (λ (l : List ℕ). l ++ rest) (sym (append_assoc front bad.front bad.line))
 
-  reported_there : (bad : BadLine) (all : List Span) → bad.spans ≡ filter is_whole all
-      → first.spans ++ moved_spans m bad.spans ≡ filter is_whole (first.spans ++ moved_spans m all)
+  reported_there : (bad : BadLine) (all : List Span) → bad.spans ≡ filter (is_told ignored) all
+      → first.spans ++ moved_spans m bad.spans ≡ filter (is_told ignored) (first.spans ++ moved_spans m all)
   reported_there bad all reported =
       ap (λ (l : List Span). first.spans ++ moved_spans m l) reported
-      ∙ ap (λ (l : List Span). first.spans ++ l) (sym (whole_moved m all))
-      ∙ ap (λ (l : List Span). l ++ filter is_whole (moved_spans m all)) (sym (all_whole first.spans whole_first))
-      ∙ sym (filter-append is_whole first.spans (moved_spans m all))
+      ∙ ap (λ (l : List Span). first.spans ++ l) (sym (told_moved ignored m all))
+      ∙ ap (λ (l : List Span). l ++ filter (is_told ignored) (moved_spans m all))
+      (sym (all_told ignored first.spans whole_first))
+      ∙ sym (filter-append (is_told ignored) first.spans (moved_spans m all))
 
-  line_beside_there : (bad : BadLine) → Beside places profile devices late m before agree spans_move
-      (behind_line at_first bad) (behind_line at_first (in_whole bad))
+  line_beside_there : (bad : BadLine) → Beside timing places profile devices ignored late m before agree spans_move
+      (behind_line ignored at_first bad) (behind_line ignored at_first (in_whole bad))
   line_beside_there bad = record {
     n = omega (arith, length-append first.events bad.events);
     ts = transactions_append first.spans (moved_spans m bad.spans) ∙ ap (λ (l : List TransactionData). before ++ l)
@@ -318,22 +309,24 @@ module _ (places : ℕ) (profile : List DeviceParts) (devices : List ℕ) (late 
   -- no bad line: the first piece and the rest are read as one
   cut after [] back objects c x =
       let place = event_place [] 0 (front ++ back) in
-      let others = span_objects known_choice profile place before (moved_spans m x.spans) in record {
+      let times = event_time 0 (front ++ back) in
+      let others = text_objects known_choice profile at_first (front ++ back) before (moved_spans m x.spans) in record {
         bad = [];
-        firsts = span_objects known_choice profile place [] first.spans;
+        firsts = text_objects known_choice profile at_first (front ++ back) [] first.spans;
         others = others;
-        counts = after_spans nothing_counted (first.spans ++ moved_spans m x.spans);
+        counts = after_spans ignored nothing_counted (first.spans ++ moved_spans m x.spans);
         from_first = record {
           events = first.events ++ x.events;
           spans = first.spans ++ moved_spans m x.spans;
           spells = spelled front back first.events x.events first.between first.spells x.spells;
           reads = joined first.events x.events first.spans x.spans first.stop first.reads x.reads;
-          all = sym (objects_append known_choice profile place [] first.spans (moved_spans m x.spans));
+          all = sym (objects_append known_choice profile place times [] first.spans (moved_spans m x.spans));
           behind = refl;
         };
-        no_more = subst (λ (os : List Object). EachSaysNoMore os others) (sym x.all)
-            (spans_said places profile devices devices late AllKnown (event_place [] 0 back) place m x.spans [] before
-            agree);
+        no_more = subst (λ (os : List Object). EachSaysNoMore timing os others) (sym x.all)
+            (spans_said timing places profile devices ignored late AllKnown (event_place [] 0 back) place
+            (event_time 0 back) times m x.spans [] before
+            (piece_tells timing front first.events first.stop tells back) agree);
       }
   -- a bad line in the rest: it is the first of the whole, and before it stand the first piece's
   -- spans
@@ -341,16 +334,22 @@ module _ (places : ℕ) (profile : List DeviceParts) (devices : List ℕ) (late 
       -- x has what follows the line and the objects after it (0, 1), the split (2), that the line
       -- ends there (3) and is bad (4), its objects (5), and how reading goes on (6)
       let line = x.4 in
-      let there = others_behind places profile devices late m before agree spans_move after at_first at_first bad
+      let there = others_behind timing places profile devices ignored late m before agree spans_move
+      after at_first at_first bad
       (in_whole bad) x.0 more x.1 c
-      (λ next y. onwards places profile devices late m before agree spans_move Continue more (behind_line at_first bad)
-      (behind_line at_first (in_whole bad)) (line_beside_there bad) next x.1 c y) x.6 in
+      (λ next y. onwards timing places profile devices ignored late m before agree spans_move Continue more
+      (behind_line ignored at_first bad)
+      (behind_line ignored at_first (in_whole bad)) (line_beside_there bad) next x.1 c y) x.6 in
       -- where events stand in the rest and in the whole, the first piece's objects, and the line's
       -- in the whole
-      let near = event_place [] 0 (bad.front ++ bad.line) in
-      let place = event_place [] 0 (front ++ bad.front ++ bad.line) in
-      let firsts = span_objects known_choice profile place [] first.spans in
-      let moved = span_objects known_choice profile place before (moved_spans m bad.spans) in
+      let text = bad.front ++ bad.line in
+      let whole = front ++ bad.front ++ bad.line in
+      let place = event_place [] 0 whole in
+      let times = event_time 0 whole in
+      let told = subst (λ (l : List ℕ). TellEach timing m (event_time 0 text) (event_time 0 l))
+      (sym (append_assoc front bad.front bad.line)) (piece_tells timing front first.events first.stop tells text) in
+      let firsts = text_objects known_choice profile at_first whole [] first.spans in
+      let moved = text_objects known_choice profile at_first whole before (moved_spans m bad.spans) in
       let word = word_object known_choice profile at_first (in_whole bad) ∷ [] in record {
         bad = in_whole bad ∷ there.more;
         firsts = firsts;
@@ -372,17 +371,21 @@ module _ (places : ℕ) (profile : List DeviceParts) (devices : List ℕ) (late 
           sym (append_assoc firsts (moved ++ word) there.others)
               ∙ ap (λ (os : List Object). os ++ there.others) (sym (append_assoc firsts moved word))
               ∙ ap (λ (os : List Object). (os ++ word) ++ there.others)
-              (sym (objects_append known_choice profile place [] first.spans (moved_spans m bad.spans))),
+              (sym (objects_append known_choice profile place times [] first.spans (moved_spans m bad.spans))),
           there.behind,
         );
         -- the rest's objects say no more
-        no_more = subst (λ (os : List Object). EachSaysNoMore os ((moved ++ word) ++ there.others)) (sym x.5)
+        no_more = subst (λ (os : List Object). EachSaysNoMore timing os ((moved ++ word) ++ there.others)) (sym x.5)
             (
-            pairs_append (bad_line_objects late_choice profile at_first bad) (moved ++ word) x.1 there.others
-            (pairs_append (front_objects late_choice profile at_first bad) moved
+            pairs_append timing (bad_line_objects late_choice profile at_first bad) (moved ++ word) x.1 there.others
+            (pairs_append timing (front_objects late_choice profile at_first bad) moved
             (word_object late_choice profile at_first bad ∷ []) word
-            (spans_said places profile devices devices late AllKnown near place m bad.spans [] before agree)
-            (token_said _ _ _ _ _, tt))
+            (spans_said timing places profile devices ignored late AllKnown (event_place [] 0 text) place
+            (event_time 0 text) times m bad.spans [] before told agree) (
+              token_said timing (word_head at_first bad) (word_head at_first (in_whole bad))
+                  (open_tells timing front first.events first.stop tells bad.front bad.events) (front_word bad.line),
+              tt,
+            ))
             there.no_more
             );
       }

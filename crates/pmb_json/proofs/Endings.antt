@@ -3,7 +3,7 @@
 -- the bytes. It depends on where the bytes end: in words that may be tokens, in a bad word, or in
 -- the rest of its line.
 use Rattle.std.proofs.Common.{◌≡◌, ◌⊎◌, ℕ, ◌+◌, inl, inr, List, [], ◌∷◌, ◌++◌, refl, sym, ap, subst, ◌∙◌, append_assoc}
-use Rattle.std.proofs.Common.{append-nil}
+use Rattle.std.proofs.Common.{append-nil, filter}
 use Rattle.pmb_bus.specs.declared.event.Event.{Event}
 use Rattle.pmb_bus.specs.Text.{BeginsText, EndedWordsSpell, FirstBadWord, Spells, front_word, is_word}
 use Rattle.pmb_bus.specs.Event.{event_of}
@@ -17,7 +17,7 @@ use Rattle.pmb_json.specs.declared.engine.EngineState.{EngineState}
 use Rattle.pmb_json.specs.declared.engine.EngineState.TheVariants.{Words, BadWord, BadLine as InLine}
 use Rattle.pmb_json.specs.declared.engine.Json.{Json}
 use Rattle.pmb_json.specs.Text.{BadLine, IsBadLine, IsBehindLine, WritesJson, bad_line_objects, behind_line}
-use Rattle.pmb_json.specs.Text.{front_objects, word_object}
+use Rattle.pmb_json.specs.Text.{front_objects, last_objects, text_objects, word_object}
 use Rattle.pmb_json.specs.machine.Standing.{Behind, InWords, StandsIn, json_bad_words, json_choice, json_profile}
 use Rattle.pmb_json.specs.machine.Standing.{longer_line}
 use Rattle.pmb_json.proofs.Fronts.{bad_line_now}
@@ -25,9 +25,10 @@ use Rattle.pmb_json.proofs.Leading.{writes_bad_line}
 use Rattle.pmb_json.proofs.Lines.{front_cut, split_line}
 use Rattle.pmb_json.proofs.MetWords.{met_reads, met_whole, read_from}
 use Rattle.pmb_json.proofs.Objects.{lines_append}
+use Rattle.pmb_json.proofs.OpenOthers.{HasEnds, LeadsToMore, TellsOpen, objects_out, objects_told}
 use Rattle.pmb_json.proofs.Reading.{MovesSpans, ends_json, lines_by, reads_on, under}
 use Rattle.pmb_json.proofs.Words.{solid_no_lf}
-use Rattle.pmb_json_objects.specs.Counts.{CountsData, end_objects}
+use Rattle.pmb_json_objects.specs.Counts.{CountsData}
 use Rattle.pmb_json_objects.specs.Object.{Object, object_lines}
 use Rattle.pmb_scan.specs.declared.scan.Scan.{Scan}
 use Rattle.pmb_scan.specs.Reached.{EndsWith, Reached}
@@ -36,7 +37,8 @@ use Rattle.pmb_spans.specs.Spans.{Span, Spans, moved_spans}
 use Rattle.pmb_json_stream.specs.declared.stream.Stream.{Stream}
 use Rattle.pmb_json_stream.specs.Before.{Before}
 use Rattle.pmb_json_stream.specs.Choice.{ChoiceData}
-use Rattle.pmb_json_stream.specs.Spans.{after_spans, event_place, span_objects, transactions_in}
+use Rattle.pmb_json_stream.specs.Others.{is_told, is_untold}
+use Rattle.pmb_json_stream.specs.Spans.{after_spans, event_place, event_time, transactions_in}
 
 -- ---- what is used of laws
 
@@ -105,16 +107,17 @@ module _ (choice : ChoiceData) (profile : List DeviceParts) (after : AfterBadTok
       → out ++ left ≡ bad_line_objects choice profile behind.b bad
       → behind.put ≡ object_lines choice.devices out → WritesMore
   ends_bad Holds behind bad out left used_are is_bad both put_are =
-      let counts = (behind_line behind.b bad).counts in
+      let counts = (behind_line choice.ignored behind.b bad).counts in
       let lines = object_lines choice.devices in
-      let said = lines (left ++ end_objects counts) in
+      let said = lines (left ++ last_objects choice profile counts) in
       let bytes_are : behind.used ++ [] ≡ bad.front ++ (bad.line ++ []) =
       append-nil behind.used ∙ (used_are ∙ ap (λ (l : List ℕ). bad.front ++ l) (sym (append-nil bad.line))) in
-      let lines_are : behind.put ++ said ≡ lines (bad_line_objects choice profile behind.b bad ++ end_objects counts) =
+      let lines_are : behind.put ++ said
+      ≡ lines (bad_line_objects choice profile behind.b bad ++ last_objects choice profile counts) =
       ap (λ (l : List ℕ). l ++ said) put_are
-      ∙ (sym (lines_append choice.devices out (left ++ end_objects counts))
-      ∙ ap lines (sym (append_assoc out left (end_objects counts))
-      ∙ ap (λ (l : List Object). l ++ end_objects counts) both)) in (
+      ∙ (sym (lines_append choice.devices out (left ++ last_objects choice profile counts))
+      ∙ ap lines (sym (append_assoc out left (last_objects choice profile counts))
+      ∙ ap (λ (l : List Object). l ++ last_objects choice profile counts) both)) in (
         said,
         tally_of counts,
         subst (λ (l : List ℕ). WritesJson choice profile after l (text ++ said) (tally_of counts)) (append-nil bytes)
@@ -124,23 +127,25 @@ module _ (choice : ChoiceData) (profile : List DeviceParts) (after : AfterBadTok
 
   module _ (scan : Scan) (stream : Stream)
       (behind : Behind choice profile after (InWords choice profile scan stream) bytes text) (move : MovesSpans) where
-    -- They spell events, of which some were not told.
+    -- They spell events, of which some were not told: these spans are theirs, and these objects are left.
     ends_read : (events : List Event) (others : List Span) → Spells behind.holds.reached.text events
-        → Spans behind.holds.reached.profile events (behind.holds.reached.spans ++ others) → WritesMore
-    ends_read events others spells spans =
+        → Spans behind.holds.reached.profile events (behind.holds.reached.spans ++ others)
+        → (left : List Object) × (text_objects choice profile behind.b behind.holds.reached.text
+        (behind.b.ts ++ transactions_in behind.holds.reached.spans) (moved_spans behind.b.n others)
+        ≡ objects_out choice profile behind.b behind.holds.reached behind.holds.reached.text ++ left) → WritesMore
+    ends_read events others spells spans left =
         let b = behind.b in
         let words = behind.holds in
         let there = words.reached in
         let told = words.told.told b words.begins in
         let same = under choice profile b scan stream behind.used behind.put words there behind.put stream told in
-        let counts = after_spans b.counts (there.spans ++ others) in
-        let said = object_lines choice.devices (span_objects choice profile (event_place b.read b.n there.text)
-        (b.ts ++ transactions_in there.spans) (moved_spans b.n others) ++ end_objects counts) in
-        let reads = reads_on choice profile b scan stream behind.used behind.put words there events others behind.put
-        said words.is_text
+        let counts = after_spans choice.ignored b.counts (there.spans ++ others) in
+        let said = object_lines choice.devices (left.0 ++ last_objects choice profile counts) in
+        let reads = reads_on choice profile b scan stream behind.used behind.put words there events others left.0
+        behind.put said words.is_text
         (lines_by choice profile b scan stream behind.used behind.put words there behind.put stream told)
         (subst (λ (l : List ℕ). Spells l events) words.is_text spells)
-        (read_from choice profile b there.profile events (there.spans ++ others) move same spans) refl in (
+        (read_from choice profile b there.profile events (there.spans ++ others) move same spans) left.1 refl in (
           said,
           tally_of counts,
           ends_json choice profile after _ bytes text said counts (tally_of counts) behind reads
@@ -149,8 +154,9 @@ module _ (choice : ChoiceData) (profile : List DeviceParts) (after : AfterBadTok
 
     -- Their last word is no token.
     ends_in_word : SpellsNoBadWord → (last : List Span) (place : ℕ) → EndsWith behind.holds.reached last
+        → TellsOpen choice profile behind.holds.reached last
         → FirstBadWord behind.holds.reached.text behind.holds.reached.events place → WritesMore
-    ends_in_word spells_none last place end first =
+    ends_in_word spells_none last place end tells first =
         let b = behind.b in
         let words = behind.holds in
         let there = words.reached in
@@ -161,7 +167,7 @@ module _ (choice : ChoiceData) (profile : List DeviceParts) (after : AfterBadTok
           front = first.front;
           events = there.events;
           spans =
-              moved_spans b.n there.spans;
+              moved_spans b.n (there.spans ++ filter (is_told choice.ignored) last);
           line = first.rest;
         } in
         let cut = split_line first.rest in
@@ -184,33 +190,46 @@ module _ (choice : ChoiceData) (profile : List DeviceParts) (after : AfterBadTok
               cut.rest cut.split cut.in_line cut.behind;
           all = moved_spans b.n (there.spans ++ last);
           reads = met_reads choice profile b there last move same end;
-          reported = met_whole choice profile b.n there last end;
+          reported = met_whole choice profile b.n there last tells;
         })
         refl
         (lines_by choice profile b scan stream behind.used behind.put words there behind.put stream told []
+        ∙ (ap (object_lines choice.devices) (objects_told choice profile b there (there.text ++ []) last tells)
         ∙ ap (λ (l : List ℕ). object_lines choice.devices
-        (span_objects choice profile (event_place b.read b.n l) b.ts (moved_spans b.n there.spans)))
-        (append-nil there.text ∙ first.split))
+        (text_objects choice profile b l b.ts
+        (moved_spans b.n (there.spans ++ filter (is_told choice.ignored) last))))
+        (append-nil there.text ∙ first.split)))
 
     -- The bytes end in words that may be tokens.
     ends_in_words : SpellsNoBadWord → (last : List Span) → EndsWith behind.holds.reached last
-        → ((rest : List Event) → (others : List Span) × Spans behind.holds.reached.profile
-        (behind.holds.reached.events ++ rest) (behind.holds.reached.spans ++ others))
+        → TellsOpen choice profile behind.holds.reached last
+        → ((rest : List Event) → LeadsToMore choice profile behind.holds.reached rest)
         → EndsInLastWord behind.holds.reached.text behind.holds.reached.events → WritesMore
-    ends_in_words spells_none last end follows (inl spells) =
-        ends_read behind.holds.reached.events last spells end.spans
-    ends_in_words spells_none last end follows (inr (inl one)) =
-        let others = follows (one.0 ∷ []) in
-        ends_read (behind.holds.reached.events ++ one.0 ∷ []) others.0 one.1 others.1
-    ends_in_words spells_none last end follows (inr (inr bad)) = ends_in_word spells_none last bad.0 end bad.1
+    ends_in_words spells_none last end tells follows (inl spells) =
+        let b = behind.b in
+        let there = behind.holds.reached in
+        let ts = b.ts ++ transactions_in there.spans in
+        ends_read there.events last spells end.spans (
+          text_objects choice profile b there.text ts (moved_spans b.n (filter (is_untold choice.ignored) last)),
+          sym (tells.rest (event_place b.read b.n there.text) (event_time b.n there.text) ts b.n),
+        )
+    ends_in_words spells_none last end tells follows (inr (inl one)) =
+        let b = behind.b in
+        let there = behind.holds.reached in
+        let more = follows (one.0 ∷ []) in
+        ends_read (there.events ++ one.0 ∷ []) more.others one.1 more.spans
+        (more.left (event_place b.read b.n there.text) (event_time b.n there.text)
+        (b.ts ++ transactions_in there.spans) b.n)
+    ends_in_words spells_none last end tells follows (inr (inr bad)) =
+        ends_in_word spells_none last bad.0 end tells bad.1
 
 -- wherever they end
 pub ends_in : (inside : EngineState) (start now : Json) (bytes text : List ℕ) → MovesSpans → SpellsNoBadWord
     → ((text : List ℕ) (events : List Event) → EndedWordsSpell text events → EndsInLastWord text events)
     → ((reached : Reached) → reached.profile ≡ json_profile start → HasRead now.scan reached
-    → (last : List Span) × EndsWith reached last)
+    → HasEnds (json_choice start) (json_profile start) reached)
     → ((reached : Reached) (rest : List Event) → reached.profile ≡ json_profile start → HasRead now.scan reached
-    → (others : List Span) × Spans reached.profile (reached.events ++ rest) (reached.spans ++ others))
+    → LeadsToMore (json_choice start) (json_profile start) reached rest)
     → StandsIn inside start now bytes text → WritesMore (json_choice start) (json_profile start)
     (json_bad_words start) bytes text
 -- in words: they are tokens, or the last one is the bad word
@@ -223,7 +242,7 @@ ends_in Words start now bytes text move spells_none last_word ends follows stand
     there behind.put now.stream told in
     let end = ends there same words.scans.reader in
     ends_in_words (json_choice start) (json_profile start) (json_bad_words start) bytes text now.scan now.stream behind
-    move spells_none end.0 end.1
+    move spells_none end.last end.ends end.tells
     (λ rest. follows there rest same words.scans.reader) (last_word there.text there.events words.scans.lexer.ended)
 -- in a bad word: its object is left
 ends_in BadWord start now bytes text move spells_none last_word ends follows stands =

@@ -75,5 +75,5 @@ module _ (choice : ChoiceData) (profile : List DeviceParts) (bus : IsBus profile
     omega (arith, packet.few),
     device_is_seen t.addr,
   )
-  packet_fits (Alert t) events packet = tt
+  packet_fits (Alert t) events packet = bus
   packet_fits NoAlert events packet = tt

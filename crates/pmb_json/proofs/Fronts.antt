@@ -15,13 +15,13 @@ use Rattle.pmb_json.specs.Text.{BadLine, IsBadLine, bad_line_objects, front_obje
 use Rattle.pmb_json.specs.machine.Standing.{IsBadSoFar, StandsIn, json_bad_words, json_choice, json_profile}
 use Rattle.pmb_json.specs.machine.Standing.{longer_line}
 use Rattle.pmb_json.proofs.Leading.{bad_line_is, has_bad_line, has_written}
+use Rattle.pmb_json.proofs.OpenOthers.{HasEnds}
 use Rattle.pmb_json.proofs.Reading.{MovesSpans, reads_so_far, under}
 use Rattle.pmb_json.proofs.Words.{solid_no_lf}
 use Rattle.pmb_io.specs.Lines.{HasNoLf}
 use Rattle.pmb_json_objects.specs.Object.{object_lines}
-use Rattle.pmb_scan.specs.Reached.{EndsWith, Reached}
+use Rattle.pmb_scan.specs.Reached.{Reached}
 use Rattle.pmb_scan.specs.Scan.{HasRead}
-use Rattle.pmb_spans.specs.Spans.{Span}
 use Rattle.pmb_json_stream.specs.Before.{Before}
 use Rattle.pmb_json_stream.specs.Choice.{ChoiceData}
 
@@ -37,7 +37,7 @@ bad_line_now choice profile b bad so_far in_line =
 
 pub so_far_in : (inside : EngineState) (start now : Json) (bytes text : List ℕ) → MovesSpans
     → ((reached : Reached) → reached.profile ≡ json_profile start → HasRead now.scan reached
-    → (last : List Span) × EndsWith reached last)
+    → HasEnds (json_choice start) (json_profile start) reached)
     → StandsIn inside start now bytes text → HasWrittenJson (json_choice start) (json_profile start)
     (json_bad_words start) bytes text
 -- in words: the spans that have ended
@@ -49,7 +49,7 @@ so_far_in Words start now bytes text move ends stands =
     words.reached behind.put now.stream told in
     let end = ends words.reached same words.scans.reader in
     let reads = reads_so_far (json_choice start) (json_profile start) behind.b now.scan now.stream behind.used
-    behind.put words end.0 move end.1 in
+    behind.put words end.last move end.tells end.ends in
     has_written (json_choice start) (json_profile start) (json_bad_words start) _ bytes text behind [] reads.0 reads.1
     reads.2
 -- in a bad word: the objects before it
@@ -88,7 +88,8 @@ is_open Continue bytes opens = tt
 from_first : (after : AfterBadToken) (read used bytes : List ℕ) → after ≡ End → (read ≡ []) ⊎ (after ≡ Continue)
     → bytes ≡ read ++ used → bytes ≡ used
 from_first after read used bytes ends (inl none) is = is ∙ ap (λ (l : List ℕ). l ++ used) none
-from_first after read used bytes ends (inr goes) is = let differ : End ≡ Continue = sym ends ∙ goes in absurd (cc differ)
+from_first after read used bytes ends (inr goes) is =
+    let differ : End ≡ Continue = sym ends ∙ goes in absurd (cc differ)
 
 pub opens_in : (inside : EngineState) (start now : Json) (bytes text : List ℕ) → StandsIn inside start now bytes text
     → IsOpenJson (json_bad_words start) bytes

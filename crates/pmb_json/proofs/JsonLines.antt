@@ -8,7 +8,6 @@ use Rattle.std.proofs.lemmas.Bool.{cases_Bool}
 use Rattle.pmb_bus.specs.Text.{front_word}
 use Rattle.pmb_command.specs.Bus.{IsBus}
 use Rattle.pmb_command.specs.Parts.{DeviceParts}
-use Rattle.pmb_io.specs.Count.{capped}
 use Rattle.pmb_io.specs.declared.tally.Tally.{Tally}
 use Rattle.pmb_scan.specs.declared.after_bad_token.AfterBadToken.{AfterBadToken}
 use Rattle.pmb_scan.specs.declared.after_bad_token.AfterBadToken.TheVariants.{End, Continue}
@@ -16,21 +15,21 @@ use Rattle.pmb_json.specs.Lines.{AllMakeFormats, AreJsonLines, IsJsonLine}
 use Rattle.pmb_json.specs.machine.Ends.{ends_word}
 use Rattle.pmb_json.specs.SoFar.{HasWrittenJson, IsOutOf, SoFarFrom}
 use Rattle.pmb_json.specs.Text.{BadLine, GoesOn, IsBadLine, ObjectsFrom, WritesJson, bad_line_objects, behind_line}
-use Rattle.pmb_json.specs.Text.{front_objects, word_object}
+use Rattle.pmb_json.specs.Text.{front_objects, last_objects, word_head, word_object}
 use Rattle.pmb_json_text.specs.Json.{IsJsonText, Json, Spells}
 use Rattle.pmb_json_text.specs.Member.{AreWritable, Member, members_of, object_line, object_of}
 use Rattle.pmb_json_text.specs.Spelling.{AreBytes, FitsInLine, IsWritable, MembersAreWritable, spelled}
-use Rattle.pmb_json_objects.specs.Counts.{CountsData, end_objects}
+use Rattle.pmb_json_objects.specs.Counts.{CountsData}
 use Rattle.pmb_json_objects.specs.Laws.{IsJsonObject}
 use Rattle.pmb_json_objects.specs.Object.{Object, is_wanted, object_lines}
 use Rattle.pmb_places.specs.Text.{place_behind}
-use Rattle.pmb_spans.specs.Spans.{is_whole}
+use Rattle.pmb_json_stream.specs.Others.{is_told}
 use Rattle.pmb_json_stream.specs.Before.{Before, at_first}
-use Rattle.pmb_json_stream.specs.Choice.{ChoiceData}
+use Rattle.pmb_json_stream.specs.Choice.{ChoiceData, gives_others}
 use Rattle.pmb_json_stream.specs.Spans.{transactions_in}
 use Rattle.pmb_json.proofs.EachOf.{each_filtered, each_of_both, each_of_first, each_of_second}
 use Rattle.pmb_json.proofs.JsonSpans.{AllSayPackets, AreJson, Below, IsJson, SaysPacket, few, place_fits}
-use Rattle.pmb_json.proofs.JsonSpans.{spans_are_json, spans_say_packets, spans_tell_bytes}
+use Rattle.pmb_json.proofs.JsonSpans.{open_time_fits, spans_are_json, spans_say_packets, spans_tell_bytes}
 use Rattle.pmb_json.proofs.Telling.{AllTellBytes, TellsBytes}
 use Rattle.pmb_json.proofs.Words.{front_ends, front_keeps}
 
@@ -106,23 +105,27 @@ module _ (below : Below) (choice : ChoiceData) (profile : List DeviceParts) (bus
   module _ (b : Before) (bad : BadLine) (tell : AllTellBytes b.ts) (is : IsBadLine choice profile b bad) where
     say_packets : AllSayPackets profile bad.spans
     say_packets = subst (AllSayPackets profile) (sym is.reported)
-        (each_filtered (SaysPacket profile) is_whole is.all (spans_say_packets profile b.n bad.events is.all is.reads))
+        (each_filtered (SaysPacket profile) (is_told choice.ignored) is.all
+        (spans_say_packets profile b.n bad.events is.all is.reads))
 
     front_is_json : AreJson (front_objects choice profile b bad)
-    front_is_json = spans_are_json below choice profile bus formats b.read b.n
-        (bad.front ++ bad.line) b.ts tell bad.spans say_packets
+    front_is_json = spans_are_json below choice profile bus formats b (bad.front ++ bad.line) b.ts tell bad.spans
+        say_packets
 
     bad_line_is_json : AreBytes bad.line → AreJson (bad_line_objects choice profile b bad)
     bad_line_is_json small =
         each_of_both IsJson (front_objects choice profile b bad) (word_object choice profile b bad ∷ []) front_is_json (
-          below.bad_token (capped (b.n + length bad.events)) (place_behind (b.read ++ bad.front)) (front_word bad.line)
-              (few (b.n + length bad.events))
-              (place_fits (place_behind (b.read ++ bad.front)) (below.behind (b.read ++ bad.front)))
+          below.bad_token (word_head b bad) (front_word bad.line)
+              (record {
+                at = few (b.n + length bad.events);
+                place = place_fits (place_behind (b.read ++ bad.front)) (below.behind (b.read ++ bad.front));
+                time = open_time_fits below bad.front bad.events;
+              })
               (word_has_bytes bad.line small),
           tt,
         )
 
-    behind_tells_bytes : AllTellBytes (behind_line b bad).ts
+    behind_tells_bytes : AllTellBytes (behind_line choice.ignored b bad).ts
     behind_tells_bytes = each_of_both TellsBytes b.ts (transactions_in bad.spans) tell
         (spans_tell_bytes profile bad.spans say_packets)
 
@@ -130,10 +133,12 @@ module _ (below : Below) (choice : ChoiceData) (profile : List DeviceParts) (bus
 
   rest_is_json : (after : AfterBadToken) (b : Before) (bad : BadLine) (more : List BadLine) (rest : List ℕ)
       (others : List Object) (counts : CountsData)
-      → ((behind : List ℕ) → AreBytes behind → ObjectsFrom choice profile Continue (behind_line b bad) behind more others
+      → ((behind : List ℕ) → AreBytes behind
+      → ObjectsFrom choice profile Continue (behind_line choice.ignored b bad) behind more others
       counts → AreJson others) → AreBytes rest
-      → GoesOn after rest (λ behind. ObjectsFrom choice profile after (behind_line b bad) behind more others counts)
-      ((more ≡ []) × (others ≡ []) × (counts ≡ (behind_line b bad).counts))
+      → GoesOn after rest
+      (λ behind. ObjectsFrom choice profile after (behind_line choice.ignored b bad) behind more others counts)
+      ((more ≡ []) × (others ≡ []) × (counts ≡ (behind_line choice.ignored b bad).counts))
       → AreJson others
   rest_is_json End b bad more rest others counts later small is = subst AreJson (sym is.1) tt
   rest_is_json Continue b bad more [] others counts later small is = subst AreJson (sym is.1) tt
@@ -143,7 +148,7 @@ module _ (below : Below) (choice : ChoiceData) (profile : List DeviceParts) (bus
       (counts : CountsData) → AllTellBytes b.ts → AreBytes bytes
       → ObjectsFrom choice profile after b bytes bad objects counts → AreJson objects
   objects_are_json after b bytes [] objects counts tell small reads =
-      subst AreJson (sym reads.all) (spans_are_json below choice profile bus formats b.read b.n bytes b.ts tell
+      subst AreJson (sym reads.all) (spans_are_json below choice profile bus formats b bytes b.ts tell
       reads.spans (spans_say_packets profile b.n reads.events reads.spans reads.reads))
   objects_are_json after b bytes (bad ∷ more) objects counts tell small reads =
       let cut = bytes_of bytes bad.front bad.line reads.0 reads.2 small in
@@ -151,16 +156,16 @@ module _ (below : Below) (choice : ChoiceData) (profile : List DeviceParts) (bus
       (each_of_both IsJson (bad_line_objects choice profile b bad) reads.1
       (bad_line_is_json b bad tell reads.4 cut.in_line)
       (rest_is_json after b bad more reads.0 reads.1 counts
-      (λ behind behind_small is. objects_are_json Continue (behind_line b bad) behind more reads.1 counts
+      (λ behind behind_small is. objects_are_json Continue (behind_line choice.ignored b bad) behind more reads.1 counts
       (behind_tells_bytes b bad tell reads.4) behind_small is) cut.behind reads.6))
 
   pub text_is_json : SpellsJson → (after : AfterBadToken) (bytes text : List ℕ) (tally : Tally) → AreBytes bytes
       → WritesJson choice profile after bytes text tally → AreJsonLines text
   text_is_json spells after bytes text tally small is =
-      lines_are_json spells choice.devices (is.objects ++ end_objects is.counts) text is.lines
-      (each_of_both IsJson is.objects (end_objects is.counts)
+      lines_are_json spells choice.devices (is.objects ++ last_objects choice profile is.counts) text is.lines
+      (each_of_both IsJson is.objects (last_objects choice profile is.counts)
       (objects_are_json after at_first bytes is.bad is.objects is.counts tt small is.from_first)
-      (below.last is.counts))
+      (below.last profile (gives_others choice) is.counts bus))
 
   -- ---- a text so far
 
@@ -174,11 +179,11 @@ module _ (below : Below) (choice : ChoiceData) (profile : List DeviceParts) (bus
   rest_so_far_is_json : (after : AfterBadToken) (b : Before) (bad : BadLine) (more : List BadLine) (rest : List ℕ)
       (objects : List Object)
       → ((behind : List ℕ) (others : List Object) → AreBytes behind
-      → SoFarFrom choice profile Continue (behind_line b bad) behind more others → AreJson others)
+      → SoFarFrom choice profile Continue (behind_line choice.ignored b bad) behind more others → AreJson others)
       → AllTellBytes b.ts → IsBadLine choice profile b bad → AreBytes bad.line → AreBytes rest
       → GoesOn after rest (λ behind. (others : List Object)
       × (objects ≡ bad_line_objects choice profile b bad ++ others)
-      × SoFarFrom choice profile after (behind_line b bad) behind more others)
+      × SoFarFrom choice profile after (behind_line choice.ignored b bad) behind more others)
       ((more ≡ []) × IsOutOf choice profile b bad rest objects)
       → AreJson objects
   rest_so_far_is_json End b bad more rest objects later tell is line small so_far =
@@ -195,13 +200,13 @@ module _ (below : Below) (choice : ChoiceData) (profile : List DeviceParts) (bus
       → SoFarFrom choice profile after b bytes bad objects → AreJson objects
   so_far_is_json after b bytes [] objects tell small reads =
       subst AreJson (sym reads.all)
-      (spans_are_json below choice profile bus formats b.read b.n bytes b.ts tell (filter is_whole reads.spans)
-      (each_filtered (SaysPacket profile) is_whole reads.spans
+      (spans_are_json below choice profile bus formats b bytes b.ts tell (filter (is_told choice.ignored) reads.spans)
+      (each_filtered (SaysPacket profile) (is_told choice.ignored) reads.spans
       (spans_say_packets profile b.n reads.events reads.spans reads.reads)))
   so_far_is_json after b bytes (bad ∷ more) objects tell small reads =
       let cut = bytes_of bytes bad.front bad.line reads.0 reads.1 small in
       rest_so_far_is_json after b bad more reads.0 objects
-      (λ behind others behind_small is. so_far_is_json Continue (behind_line b bad) behind more others
+      (λ behind others behind_small is. so_far_is_json Continue (behind_line choice.ignored b bad) behind more others
       (behind_tells_bytes b bad tell reads.3) behind_small is)
       tell reads.3 cut.in_line cut.behind reads.5
 

@@ -1,7 +1,7 @@
 -- The objects of packets and refusals are JSON objects with distinct keys. For the law
 -- `each_line_is_json`. Laws of lower crates say it of one object (`Below`); here it is shown that
 -- what is counted, placed and said fits their premises.
-use Rattle.std.proofs.Common.{ℕ, ◌+◌, ◌-◌, Option, Some, None, List, [], ◌∷◌, ◌++◌, length, sym, subst, arith}
+use Rattle.std.proofs.Common.{ℕ, ◌+◌, ◌-◌, Bool, Option, Some, None, List, [], ◌∷◌, ◌++◌, length, sym, subst, arith}
 use Rattle.std.specs.Prelude.{IfSome}
 use Rattle.std.specs.List.{AllByRecursion}
 use Rattle.pmb_bus.specs.declared.event.Event.{Event}
@@ -10,12 +10,14 @@ use Rattle.pmb_command.specs.Bus.{IsBus}
 use Rattle.pmb_command.specs.Parts.{DeviceParts}
 use Rattle.pmb_io.specs.Count.{capped}
 use Rattle.pmb_json.specs.Lines.{AllMakeFormats}
+use Rattle.pmb_json.specs.Text.{text_objects}
 use Rattle.pmb_json_text.specs.Spelling.{AreBytes}
 use Rattle.pmb_json_objects.specs.BadToken.{bad_token_object}
 use Rattle.pmb_json_objects.specs.Counts.{CountsData, end_objects}
-use Rattle.pmb_json_objects.specs.Laws.{IsCount, IsJsonObject, IsPlace, IsSeen, IsTransaction}
+use Rattle.pmb_json_objects.specs.Head.{Head, head_at}
+use Rattle.pmb_json_objects.specs.Laws.{IsCount, IsHead, IsJsonObject, IsPlace, IsSeen, IsTime, IsTransaction}
 use Rattle.pmb_json_objects.specs.Object.{Object}
-use Rattle.pmb_json_objects.specs.Packets.{packet_objects}
+use Rattle.pmb_json_objects.specs.Packets.{other_object, packet_objects}
 use Rattle.pmb_json_objects.specs.Refusals.{refusal_object}
 use Rattle.pmb_json_objects.specs.Seen.{SeenData}
 use Rattle.pmb_places.specs.Bounds.{IsInRange}
@@ -23,8 +25,14 @@ use Rattle.pmb_places.specs.declared.places.Place.{Place}
 use Rattle.pmb_places.specs.Text.{end_of_last_word, place_behind, places_from}
 use Rattle.pmb_partial_packet.specs.PartialPacket.{written_to}
 use Rattle.pmb_spans.specs.Spans.{Span, ReadSpan, RefusedSpan, TruncatedSpan, SpansFrom}
+use Rattle.pmb_json_stream.specs.Before.{Before}
 use Rattle.pmb_json_stream.specs.Choice.{ChoiceData}
-use Rattle.pmb_json_stream.specs.Spans.{event_place, seen_behind, span_objects, transactions_in}
+use Rattle.pmb_json_stream.specs.Others.{other_address}
+use Rattle.pmb_json_stream.specs.Spans.{event_place, event_time, other_or, refused_span, seen_behind, span_objects}
+use Rattle.pmb_json_stream.specs.Spans.{transactions_in}
+use Rattle.pmb_json_stream.specs.UnderWay.{open_time, time_of_some, under_way, up_to_stop}
+use Rattle.pmb_times.specs.Line.{IsTime as IsPlainTime}
+use Rattle.pmb_times.specs.Times.{time_at}
 use Rattle.pmb_transaction.specs.declared.reason.Reason.{Reason}
 use Rattle.pmb_transaction.specs.Packet.{Packet}
 use Rattle.pmb_transaction.specs.Reading.{RefusalData}
@@ -32,6 +40,7 @@ use Rattle.pmb_transaction.specs.Transaction.{TransactionData}
 use Rattle.pmb_json.proofs.EachOf.{each_of_both, of_any, the_one_at}
 use Rattle.pmb_json.proofs.Fitting.{device_is_seen, packet_fits}
 use Rattle.pmb_json.proofs.Telling.{AllTellBytes, TellsBytes, packets_tell_bytes}
+use Rattle.pmb_json.proofs.TimeBytes.{times_have_bytes}
 
 abbrev pub IsJson : Object → Type 0
 IsJson object = IsJsonObject object.members
@@ -42,20 +51,23 @@ AreJson objects = AllByRecursion IsJson objects
 -- what laws of lower crates say
 pub record Below : Type 0 where
   -- of the objects of a packet, a refusal, a bad word, and of the last ones
-  pub packet : (seen : SeenData) (place : ℕ → Place) (n : ℕ) (events : List Event) (t : TransactionData)
-      → ((at : ℕ) → IsPlace (place at)) → IsTransaction seen t
-      → AreJson (packet_objects seen place n events t)
-  pub refusal : (seen : SeenData) (at : ℕ) (place : Place) (front : List Event) (event : Option Event) (reason : Reason)
-      (expected : Kinds) → IsCount at → IsPlace place
-      → IfSome (written_to front) (IsSeen seen)
-      → IsJsonObject (refusal_object seen at place front event reason expected).members
-  pub bad_token : (at : ℕ) (place : Place) (word : List ℕ) → IsCount at → IsPlace place → AreBytes word
-      → IsJsonObject (bad_token_object at place word).members
-  pub last : (c : CountsData) → AreJson (end_objects c)
+  pub packet : (seen : SeenData) (place : ℕ → Place) (time : Option (List ℕ)) (n : ℕ) (events : List Event)
+      (t : TransactionData) → ((at : ℕ) → IsPlace (place at)) → IsTime time → IsTransaction seen t
+      → AreJson (packet_objects seen place time n events t)
+  pub refusal : (seen : SeenData) (head : Head) (front : List Event) (event : Option Event) (reason : Reason)
+      (expected : Kinds) → IsHead head → IsBus seen.profile → IfSome (written_to front) (IsSeen seen)
+      → IsJsonObject (refusal_object seen head front event reason expected).members
+  pub bad_token : (head : Head) (word : List ℕ) → IsHead head → AreBytes word
+      → IsJsonObject (bad_token_object head word).members
+  pub other : (head : Head) (addr : ℕ) → IsHead head → IsJsonObject (other_object head addr).members
+  pub last : (profile : List DeviceParts) (gives_others : Bool) (c : CountsData) → IsBus profile
+      → AreJson (end_objects profile gives_others c)
   -- places are in range: after a text, of its words, at its last word's end
   pub behind : (text : List ℕ) → IsInRange (place_behind text)
   pub words : (front text : List ℕ) → AllByRecursion IsInRange (places_from front text)
   pub end : (text : List ℕ) → IsInRange (end_of_last_word text)
+  -- so are the bytes of times
+  pub times : (text : List ℕ) (k : ℕ) → IfSome (time_at text k) IsPlainTime
 
 pub few : (n : ℕ) → IsCount (capped n)
 few n = omega arith
@@ -70,6 +82,24 @@ events_are_placed below read n text at =
     place_fits (event_place read n text at)
     (the_one_at IsInRange (places_from read text) (at - n) (end_of_last_word (read ++ text)) (below.words read text)
     (below.end (read ++ text)))
+
+-- ---- times
+
+time_fits : (time : Option (List ℕ)) → IfSome time IsPlainTime → IsTime time
+time_fits None is = tt
+time_fits (Some time) is = times_have_bytes time is.plain
+
+pub times_fit : Below → (text : List ℕ) (k : ℕ) → IsTime (time_at text k)
+times_fit below text k = time_fits (time_at text k) (below.times text k)
+
+-- of what is under way, if anything is
+time_fits_of_some : (events : List Event) (time : Option (List ℕ)) → IsTime time → IsTime (time_of_some events time)
+time_fits_of_some [] time is = tt
+time_fits_of_some (event ∷ events) time is = is
+
+pub open_time_fits : Below → (text : List ℕ) (events : List Event) → IsTime (open_time text events)
+open_time_fits below text events = time_fits_of_some (under_way events) (time_at text (up_to_stop events))
+    (times_fit below text (up_to_stop events))
 
 -- ---- spans of packets
 
@@ -103,37 +133,60 @@ module _ (profile : List DeviceParts) where
 
 module _ (below : Below) (choice : ChoiceData) (profile : List DeviceParts) (bus : IsBus profile)
     (formats : AllMakeFormats profile) where
-  module _ (place : ℕ → Place) (placed : (at : ℕ) → IsPlace (place at)) where
+  module _ (place : ℕ → Place) (placed : (at : ℕ) → IsPlace (place at)) (times : ℕ → Option (List ℕ))
+      (timed : (at : ℕ) → IsTime (times at)) where
     refusal_is_json : (before : List TransactionData) → AllTellBytes before
-        → (at : ℕ) (front : List Event) (event : Option Event) (refusal : RefusalData)
-        → IsJsonObject (refusal_object (seen_behind choice profile before) (capped at)
-        (place at) front event refusal.reason refusal.expected).members
-    refusal_is_json before tell at front event refusal =
-        below.refusal (seen_behind choice profile before) (capped at) (place at) front event refusal.reason
-        refusal.expected (few at) (placed at)
+        → (n : ℕ) (front : List Event) (event : Option Event) (refusal : RefusalData)
+        → IsJsonObject (refused_span choice profile place times before n front event refusal).members
+    refusal_is_json before tell n front event refusal =
+        let at = n + length front in
+        below.refusal (seen_behind choice profile before) (head_at place (times n) at) front event refusal.reason
+        refusal.expected (record { at = few at; place = placed at; time = timed n }) bus
         (of_any (IsSeen (seen_behind choice profile before)) (written_to front)
         (device_is_seen choice profile bus formats before tell))
 
+    -- an other, or these objects
+    either_is_json : (n : ℕ) (addr : Option ℕ) (objects : List Object) → AreJson objects
+        → AreJson (other_or choice profile place times n addr objects)
+    either_is_json n None objects are = are
+    either_is_json n (Some addr) objects are = (
+      below.other (head_at place (times n) (n + 1)) addr
+          (record { at = few (n + 1); place = placed (n + 1); time = timed n }),
+      tt,
+    )
+
     objects_are_json : (before : List TransactionData) → AllTellBytes before → (spans : List Span)
-        → AllSayPackets profile spans → AreJson (span_objects choice profile place before spans)
+        → AllSayPackets profile spans → AreJson (span_objects choice profile place times before spans)
     objects_are_json before tell [] say = tt
     objects_are_json before tell (ReadSpan n events t ∷ spans) say =
-        each_of_both IsJson (packet_objects (seen_behind choice profile before) place n events t)
-        (span_objects choice profile place (before ++ t ∷ []) spans)
-        (below.packet (seen_behind choice profile before) place n events t placed
-        (packet_fits choice profile bus formats before tell t events say.0))
+        let own = packet_objects (seen_behind choice profile before) place (times n) n events t in
+        let addr = other_address choice.ignored events in
+        each_of_both IsJson (other_or choice profile place times n addr own)
+        (span_objects choice profile place times (before ++ t ∷ []) spans)
+        (either_is_json n addr own
+        (below.packet (seen_behind choice profile before) place (times n) n events t placed (timed n)
+        (packet_fits choice profile bus formats before tell t events say.0)))
         (objects_are_json (before ++ t ∷ []) (each_of_both TellsBytes before (t ∷ []) tell
         (packets_tell_bytes profile t events say.0, tt)) spans say.1)
-    objects_are_json before tell (RefusedSpan n front event refusal ∷ spans) say = (
-      refusal_is_json before tell (n + length front) front (Some event) refusal,
-      objects_are_json before tell spans say.1,
-    )
+    objects_are_json before tell (RefusedSpan n front event refusal ∷ spans) say =
+        let own = refused_span choice profile place times before n front (Some event) refusal ∷ [] in
+        let addr = other_address choice.ignored (front ++ event ∷ []) in
+        each_of_both IsJson (other_or choice profile place times n addr own)
+        (span_objects choice profile place times before spans)
+        (either_is_json n addr own (refusal_is_json before tell n front (Some event) refusal, tt))
+        (objects_are_json before tell spans say.1)
     objects_are_json before tell (TruncatedSpan n front refusal ∷ spans) say =
-        (refusal_is_json before tell (n + length front) front None refusal, objects_are_json before tell spans say.1)
+        let own = refused_span choice profile place times before n front None refusal ∷ [] in
+        let addr = other_address choice.ignored front in
+        each_of_both IsJson (other_or choice profile place times n addr own)
+        (span_objects choice profile place times before spans)
+        (either_is_json n addr own (refusal_is_json before tell n front None refusal, tt))
+        (objects_are_json before tell spans say.1)
 
   -- of a text that stands after what was read
-  pub spans_are_json : (read : List ℕ) (n : ℕ) (text : List ℕ) (before : List TransactionData) → AllTellBytes before
+  pub spans_are_json : (b : Before) (text : List ℕ) (before : List TransactionData) → AllTellBytes before
       → (spans : List Span) → AllSayPackets profile spans
-      → AreJson (span_objects choice profile (event_place read n text) before spans)
-  spans_are_json read n text before tell spans say = objects_are_json (event_place read n text)
-      (events_are_placed below read n text) before tell spans say
+      → AreJson (text_objects choice profile b text before spans)
+  spans_are_json b text before tell spans say =
+      objects_are_json (event_place b.read b.n text) (events_are_placed below b.read b.n text)
+      (event_time b.n text) (λ at. times_fit below text (at - b.n)) before tell spans say

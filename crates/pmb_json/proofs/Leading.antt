@@ -13,12 +13,12 @@ use Rattle.pmb_scan.specs.declared.after_bad_token.AfterBadToken.{AfterBadToken}
 use Rattle.pmb_scan.specs.declared.after_bad_token.AfterBadToken.TheVariants.{End, Continue}
 use Rattle.pmb_json.specs.SoFar.{HasWrittenJson, IsOutOf, SoFarFrom, StaysBad}
 use Rattle.pmb_json.specs.Text.{BadLine, GoesOn, IsBadLine, IsBehindLine, ObjectsFrom, WritesJson, bad_line_objects}
-use Rattle.pmb_json.specs.Text.{behind_line}
+use Rattle.pmb_json.specs.Text.{behind_line, last_objects}
 use Rattle.pmb_json.specs.machine.Standing.{Behind, IsBadSoFar, LeadsTo, longer_line}
 use Rattle.pmb_json.proofs.Lines.{bad_in_line}
 use Rattle.pmb_json.proofs.Objects.{lines_append}
 use Rattle.pmb_json.proofs.Words.{no_lf_append}
-use Rattle.pmb_json_objects.specs.Counts.{CountsData, end_objects}
+use Rattle.pmb_json_objects.specs.Counts.{CountsData}
 use Rattle.pmb_json_objects.specs.Object.{Object, object_lines}
 use Rattle.pmb_json_stream.specs.Before.{Before, at_first}
 use Rattle.pmb_json_stream.specs.Choice.{ChoiceData}
@@ -55,12 +55,13 @@ module _ (choice : ChoiceData) (profile : List DeviceParts) where
   -- a bad line more, and its LF
   leads_on : (b : Before) (bads : List BadLine) (objects : List Object) (bad : BadLine)
       → LeadsTo choice profile Continue b bads objects → IsBadLine choice profile b bad
-      → LeadsTo choice profile Continue (behind_line b bad) (bads ++ bad ∷ [])
+      → LeadsTo choice profile Continue (behind_line choice.ignored b bad) (bads ++ bad ∷ [])
       (objects ++ bad_line_objects choice profile b bad)
   leads_on b bads objects bad leads is_bad =
       let own = bad_line_objects choice profile b bad in
       -- the bytes before the line, the line, its LF and the rest, in one row
-      let bytes_are : (rest : List ℕ) → b.read ++ ((bad.front ++ bad.line) ++ (10 ∷ rest)) ≡ (behind_line b bad).read
+      let bytes_are : (rest : List ℕ) → b.read ++ ((bad.front ++ bad.line) ++ (10 ∷ rest))
+      ≡ (behind_line choice.ignored b bad).read
       ++ rest =
       λ rest. sym (append_assoc b.read (bad.front ++ bad.line) (10 ∷ rest))
       ∙ (ap (λ (l : List ℕ). l ++ (10 ∷ rest)) (sym (append_assoc b.read bad.front bad.line))
@@ -93,10 +94,11 @@ module _ (choice : ChoiceData) (profile : List DeviceParts) where
 
   pub leads_line : (after : AfterBadToken) (b : Before) (bads : List BadLine) (objects : List Object) (bad : BadLine)
       → after ≡ Continue → LeadsTo choice profile after b bads objects
-      → IsBadLine choice profile b bad → LeadsTo choice profile after (behind_line b bad) (bads ++ bad ∷ [])
+      → IsBadLine choice profile b bad
+      → LeadsTo choice profile after (behind_line choice.ignored b bad) (bads ++ bad ∷ [])
       (objects ++ bad_line_objects choice profile b bad)
   leads_line after b bads objects bad goes leads is_bad =
-      subst (λ (a : AfterBadToken). LeadsTo choice profile a (behind_line b bad) (bads ++ bad ∷ [])
+      subst (λ (a : AfterBadToken). LeadsTo choice profile a (behind_line choice.ignored b bad) (bads ++ bad ∷ [])
       (objects ++ bad_line_objects choice profile b bad)) (sym goes)
       (leads_on b bads objects bad (subst (λ (a : AfterBadToken). LeadsTo choice profile a b bads objects) goes leads)
       is_bad)
@@ -107,7 +109,7 @@ module _ (choice : ChoiceData) (profile : List DeviceParts) where
   last_line : (after : AfterBadToken) (b : Before) (bad : BadLine) (rest : List ℕ) → IsBadLine choice profile b bad
       → IsBehindLine rest → (after ≡ End) ⊎ (rest ≡ [])
       → ObjectsFrom choice profile after b ((bad.front ++ bad.line) ++ rest) (bad ∷ [])
-      (bad_line_objects choice profile b bad ++ []) (behind_line b bad).counts
+      (bad_line_objects choice profile b bad ++ []) (behind_line choice.ignored b bad).counts
   last_line after b bad rest is_bad behind nowhere =
       (rest, [], refl, behind, is_bad, refl, goes_nowhere after rest _ _ nowhere (refl, refl, refl))
 
@@ -117,7 +119,7 @@ module _ (choice : ChoiceData) (profile : List DeviceParts) where
     pub writes_json : (tail said : List ℕ) (more : List BadLine) (others : List Object) (counts : CountsData)
         (tally : Tally)
         → ObjectsFrom choice profile after behind.b (behind.used ++ tail) more others counts
-        → behind.put ++ said ≡ object_lines choice.devices (others ++ end_objects counts)
+        → behind.put ++ said ≡ object_lines choice.devices (others ++ last_objects choice profile counts)
         → IsTallyOf counts.packets (counts.refusals + counts.bad_tokens) tally
         → WritesJson choice profile after (bytes ++ tail) (text ++ said) tally
     writes_json tail said more others counts tally from said_are tallied =
@@ -132,8 +134,8 @@ module _ (choice : ChoiceData) (profile : List DeviceParts) where
           lines = ap (λ (l : List ℕ). l ++ said) behind.text_is
               ∙ (append_assoc (lines behind.objects) behind.put said
               ∙ (ap (λ (l : List ℕ). lines behind.objects ++ l) said_are
-              ∙ (sym (lines_append choice.devices behind.objects (others ++ end_objects counts))
-              ∙ ap lines (sym (append_assoc behind.objects others (end_objects counts))))));
+              ∙ (sym (lines_append choice.devices behind.objects (others ++ last_objects choice profile counts))
+              ∙ ap lines (sym (append_assoc behind.objects others (last_objects choice profile counts))))));
           tallied = tallied;
         }
 
@@ -156,18 +158,20 @@ module _ (choice : ChoiceData) (profile : List DeviceParts) where
         → behind.used ++ tail ≡ bad.front ++ (bad.line ++ rest) → IsBadLine choice profile behind.b bad
         → IsBehindLine rest → (after ≡ End) ⊎ (rest ≡ [])
         → behind.put ++ said ≡ object_lines choice.devices
-        (bad_line_objects choice profile behind.b bad ++ end_objects (behind_line behind.b bad).counts)
-        → IsTallyOf (behind_line behind.b bad).counts.packets
-        ((behind_line behind.b bad).counts.refusals + (behind_line behind.b bad).counts.bad_tokens) tally
+        (bad_line_objects choice profile behind.b bad
+        ++ last_objects choice profile (behind_line choice.ignored behind.b bad).counts)
+        → IsTallyOf (behind_line choice.ignored behind.b bad).counts.packets
+        ((behind_line choice.ignored behind.b bad).counts.refusals
+        + (behind_line choice.ignored behind.b bad).counts.bad_tokens) tally
         → WritesJson choice profile after (bytes ++ tail) (text ++ said) tally
     writes_bad_line tail said bad rest tally bytes_are is_bad is_behind nowhere said_are tallied =
         let own = bad_line_objects choice profile behind.b bad in
-        let counts = (behind_line behind.b bad).counts in
+        let counts = (behind_line choice.ignored behind.b bad).counts in
         writes_json tail said (bad ∷ []) (own ++ []) counts tally
         (subst (λ (l : List ℕ). ObjectsFrom choice profile after behind.b l (bad ∷ []) (own ++ []) counts)
         (append_assoc bad.front bad.line rest ∙ sym bytes_are)
         (last_line after behind.b bad rest is_bad is_behind nowhere))
-        (said_are ∙ ap (λ (l : List Object). object_lines choice.devices (l ++ end_objects counts))
+        (said_are ∙ ap (λ (l : List Object). object_lines choice.devices (l ++ last_objects choice profile counts))
         (sym (append-nil own))) tallied
 
     -- so far a bad line, whose object is out or not

@@ -2,6 +2,7 @@ pub mod Words
 pub mod Lines
 pub mod Behind
 pub mod Objects
+pub mod OpenOthers
 pub mod Leading
 pub mod MetWords
 pub mod Steps
@@ -13,11 +14,14 @@ pub mod Running
 pub mod BadLines
 pub mod OneText
 pub mod SomeText
+pub mod PieceMembers
 pub mod Pieces
+pub mod PieceTimes
 pub mod Cut
 pub mod OneFront
 pub mod EachOf
 pub mod Telling
+pub mod TimeBytes
 pub mod Fitting
 pub mod JsonSpans
 pub mod JsonLines

@@ -1,33 +1,40 @@
 -- A bad word: where it is met, how it goes on, and what is written of it. For `drop_line` and
 -- `end_words` of `src/engine.rt`. The word under way of a scan stands where its line begins to be
 -- bad; its object is fixed once 32 bytes of it came, or it ended, however its line goes on.
-use Rattle.std.proofs.Common.{◌≡◌, ℕ, ◌+◌, true, List, [], ◌∷◌, ◌++◌, filter, length, take, refl, sym, ap, subst, ◌∙◌}
-use Rattle.std.proofs.Common.{add-zero, append_assoc, append-nil, arith, length-append}
+use Rattle.std.proofs.Common.{◌≡◌, ℕ, ◌+◌, true, Option, List, [], ◌∷◌, ◌++◌, filter, length, take, refl, sym, ap}
+use Rattle.std.proofs.Common.{subst}
+use Rattle.std.proofs.Common.{add-zero, append_assoc, append-nil, arith, length-append, ◌∙◌}
 use Rattle.std.proofs.lemmas.List.Elements.{filter-append}
 use Rattle.pmb_bus.specs.declared.event.Event.{Event}
 use Rattle.pmb_bus.specs.LexFault.{OpenWordIsBad}
-use Rattle.pmb_bus.specs.Text.{EndsBetween, FirstBadWord, front_word, is_word, open_word}
+use Rattle.pmb_bus.specs.Text.{EndsBetween, FirstBadWord, Spells, front_word, is_word, open_word}
 use Rattle.pmb_command.specs.Parts.{DeviceParts}
 use Rattle.pmb_io.specs.Count.{capped}
 use Rattle.pmb_io.specs.Lines.{HasNoLf}
-use Rattle.pmb_json.specs.Text.{BadLine, bad_line_objects, behind_line, front_objects, word_object}
+use Rattle.pmb_json.specs.Text.{BadLine, bad_line_objects, behind_line, front_objects, last_objects, text_objects}
+use Rattle.pmb_json.specs.Text.{word_object}
 use Rattle.pmb_json.specs.machine.Standing.{HasBadWord, InBadLine, IsBadSoFar, behind_bytes, behind_object}
-use Rattle.pmb_json.specs.machine.Standing.{last_word_objects, longer_line}
+use Rattle.pmb_json.specs.machine.Standing.{last_word_objects, longer_line, open_word_object}
 use Rattle.pmb_json.proofs.Lines.{behind_front}
-use Rattle.pmb_json.proofs.Objects.{counts_moved, lines_append, transactions_moved, whole_moved}
+use Rattle.pmb_json.proofs.Objects.{counts_append, counts_moved, ends_tell_none, lines_append, told_moved}
+use Rattle.pmb_json.proofs.Objects.{transactions_append, transactions_moved}
+use Rattle.pmb_json.proofs.OpenOthers.{TellsOpen, objects_told}
 use Rattle.pmb_json.proofs.Words.{no_lf_append, solid_both}
 use Rattle.pmb_json_objects.specs.BadToken.{bad_token_object}
-use Rattle.pmb_json_objects.specs.Counts.{CountsData, end_objects}
+use Rattle.pmb_json_objects.specs.Head.{Head}
+use Rattle.pmb_json_objects.specs.Counts.{CountsData}
 use Rattle.pmb_json_objects.specs.Object.{Object, object_lines}
 use Rattle.pmb_places.specs.declared.places.Place.{Place}
 use Rattle.pmb_places.specs.Places.{place_behind, place_of_last_word}
 use Rattle.pmb_scan.specs.Reached.{EndsWith, Reached}
-use Rattle.pmb_spans.specs.Spans.{Span, Spans, SpansFrom, is_whole, moved_spans}
+use Rattle.pmb_spans.specs.Spans.{Span, Spans, SpansFrom, moved_spans}
 use Rattle.pmb_json_stream.specs.declared.stream.Stream.{Stream}
 use Rattle.pmb_json_stream.specs.Before.{Before, with_bytes, with_reached}
 use Rattle.pmb_json_stream.specs.Choice.{ChoiceData}
-use Rattle.pmb_json_stream.specs.Spans.{after_spans, event_place, span_objects, transactions_in}
-use Rattle.pmb_json_stream.specs.Stream.{AreLinesOf, StreamKnows}
+use Rattle.pmb_json_stream.specs.Others.{is_told}
+use Rattle.pmb_json_stream.specs.Spans.{after_open, after_spans, transactions_in}
+use Rattle.pmb_json_stream.specs.Stream.{AreLinesOf, KeepsOpenTime, StreamKnows, stream_time}
+use Rattle.pmb_json_stream.specs.UnderWay.{open_time}
 use Rattle.pmb_transaction.specs.Transaction.{TransactionData}
 
 -- ---- what a stream knows, said otherwise
@@ -42,12 +49,17 @@ knows_as read other n ts us c d stream reads transactions counts knows =
     transactions
     (subst (λ (e : CountsData). StreamKnows (record { read = read; n = n; ts = ts; counts = e }) stream) counts knows))
 
+-- the time of what is under way stays, whatever follows in the text
+abbrev pub TimesStay : Type 0
+TimesStay = (text more : List ℕ) (events : List Event) → Spells text events
+    → open_time (text ++ more) events ≡ open_time text events
+
 -- ---- its object
 
 -- at most 32 bytes are told
-object_same : (at : ℕ) (place : Place) (word other : List ℕ) → take 32 word ≡ take 32 other
-    → bad_token_object at place word ≡ bad_token_object at place other
-object_same at place word other same = rw same refl
+object_same : (head : Head) (word other : List ℕ) → take 32 word ≡ take 32 other
+    → bad_token_object head word ≡ bad_token_object head other
+object_same head word other same = rw same refl
 
 -- where it stands, by what is under way
 pub record StandsThere (b : Before) (bad : BadLine) : Type 0 where
@@ -78,16 +90,20 @@ stands_there opened placed b bad rest between first solid told =
 
 module _ (choice : ChoiceData) (profile : List DeviceParts) where
   -- the object that goes out is that of the word of the line, however that goes on
-  pub word_is : (b : Before) (bad : BadLine) (more : List ℕ) → StandsThere b bad
+  pub word_is : (b : Before) (bad : BadLine) (more : List ℕ) (time : Option (List ℕ)) → StandsThere b bad
+      → time ≡ open_time bad.front bad.events
       → take 32 (front_word (bad.line ++ more)) ≡ take 32 bad.line
-      → bad_token_object (capped (b.n + length bad.events)) (place_of_last_word ((b.read ++ bad.front) ++ bad.line))
-      (open_word ((b.read ++ bad.front) ++ bad.line)) ≡ word_object choice profile b (longer_line bad more)
-  word_is b bad more there told =
-      ap (λ (place : Place). bad_token_object (capped (b.n + length bad.events)) place
-      (open_word ((b.read ++ bad.front) ++ bad.line))) there.placed
-      ∙ object_same (capped (b.n + length bad.events)) (place_behind (b.read ++ bad.front))
-      (open_word ((b.read ++ bad.front) ++ bad.line)) (front_word (bad.line ++ more))
-      (ap (take 32) there.opened ∙ sym told)
+      → open_word_object time (behind_bytes choice.ignored b bad) ≡ word_object choice profile b (longer_line bad more)
+  word_is b bad more time there timed told =
+      let at = capped (b.n + length bad.events) in
+      let word = open_word ((b.read ++ bad.front) ++ bad.line) in
+      let place = place_of_last_word ((b.read ++ bad.front) ++ bad.line) in
+      ap (λ (t : Option (List ℕ)). bad_token_object (record { at = at; place = place; time = t }) word) timed
+      ∙ (ap (λ (p : Place). bad_token_object
+      (record { at = at; place = p; time = open_time bad.front bad.events }) word) there.placed
+      ∙ object_same
+      (record { at = at; place = place_behind (b.read ++ bad.front); time = open_time bad.front bad.events })
+      word (front_word (bad.line ++ more)) (ap (take 32) there.opened ∙ sym told))
 
   -- it goes out after those before it
   pub lines_with_word : (b : Before) (bad : BadLine) (more put said : List ℕ) (word : Object)
@@ -104,40 +120,42 @@ module _ (choice : ChoiceData) (profile : List DeviceParts) where
   -- and the counts after it
   pub lines_with_counts : (b : Before) (bad : BadLine) (more put said : List ℕ) (counts : CountsData)
       → put ≡ object_lines choice.devices (bad_line_objects choice profile b (longer_line bad more))
-      → said ≡ object_lines choice.devices (end_objects counts)
+      → said ≡ object_lines choice.devices (last_objects choice profile counts)
       → put ++ said ≡ object_lines choice.devices (bad_line_objects choice profile b (longer_line bad more)
-      ++ end_objects counts)
+      ++ last_objects choice profile counts)
   lines_with_counts b bad more put said counts put_are said_are =
       let objects = bad_line_objects choice profile b (longer_line bad more) in
       ap (λ (l : List ℕ). l ++ said) put_are ∙ (ap (λ (l : List ℕ). object_lines choice.devices objects ++ l) said_are
-      ∙ sym (lines_append choice.devices objects (end_objects counts)))
+      ∙ sym (lines_append choice.devices objects (last_objects choice profile counts)))
 
   -- both
-  pub lines_with_last : (b : Before) (bad : BadLine) (more put said : List ℕ) → StandsThere b bad
+  pub lines_with_last : (b : Before) (bad : BadLine) (more put said : List ℕ) (time : Option (List ℕ))
+      → StandsThere b bad → time ≡ open_time bad.front bad.events
       → take 32 (front_word (bad.line ++ more)) ≡ take 32 bad.line
       → put ≡ object_lines choice.devices (front_objects choice profile b (longer_line bad more))
-      → said ≡ object_lines choice.devices (last_word_objects (behind_bytes b bad))
+      → said ≡ object_lines choice.devices (last_word_objects choice profile time (behind_bytes choice.ignored b bad))
       → put ++ said ≡ object_lines choice.devices (bad_line_objects choice profile b (longer_line bad more)
-      ++ end_objects (behind_line b (longer_line bad more)).counts)
-  lines_with_last b bad more put said there told put_are said_are =
-      let word = bad_token_object (capped (b.n + length bad.events))
-      (place_of_last_word ((b.read ++ bad.front) ++ bad.line)) (open_word ((b.read ++ bad.front) ++ bad.line)) in
-      let counts = (behind_line b (longer_line bad more)).counts in
-      let ends = object_lines choice.devices (end_objects counts) in
+      ++ last_objects choice profile (behind_line choice.ignored b (longer_line bad more)).counts)
+  lines_with_last b bad more put said time there timed told put_are said_are =
+      let word = open_word_object time (behind_bytes choice.ignored b bad) in
+      let counts = (behind_line choice.ignored b (longer_line bad more)).counts in
+      let ends = object_lines choice.devices (last_objects choice profile counts) in
       let own = object_lines choice.devices (word ∷ []) in
-      ap (λ (l : List ℕ). put ++ l) (said_are ∙ lines_append choice.devices (word ∷ []) (end_objects counts))
+      ap (λ (l : List ℕ). put ++ l) (said_are
+      ∙ lines_append choice.devices (word ∷ []) (last_objects choice profile counts))
       ∙ (sym (append_assoc put own ends)
       ∙ lines_with_counts b bad more (put ++ own) ends counts
-      (lines_with_word b bad more put own word put_are refl (word_is b bad more there told)) refl)
+      (lines_with_word b bad more put own word put_are refl (word_is b bad more time there timed told)) refl)
 
   -- ---- it is met
 
   -- the word under way of what a scan has reached
-  abbrev pub met : Before → Reached → List ℕ → BadLine
-  met b reached front = record {
+  -- where these spans are those of an end there
+  abbrev pub met : Before → Reached → List ℕ → List Span → BadLine
+  met b reached front last = record {
     front = front;
     events = reached.events;
-    spans = moved_spans b.n reached.spans;
+    spans = moved_spans b.n (reached.spans ++ filter (is_told choice.ignored) last);
     line =
         open_word reached.text;
   }
@@ -172,57 +190,86 @@ module _ (choice : ChoiceData) (profile : List DeviceParts) where
   met_reads b reached last move under end = read_from b reached.profile reached.events
       (reached.spans ++ last) move under end.spans
 
-  pub met_whole : (n : ℕ) (reached : Reached) (last : List Span) → EndsWith reached last
-      → moved_spans n reached.spans ≡ filter is_whole (moved_spans n (reached.spans ++ last))
-  met_whole n reached last end =
-      sym (whole_moved n (reached.spans ++ last)
-      ∙ ap (moved_spans n) (filter-append is_whole reached.spans last
-      ∙ (ap (λ (l : List Span). l ++ filter is_whole last) end.whole
-      ∙ (ap (λ (l : List Span). reached.spans ++ l) end.inside ∙ append-nil reached.spans))))
+  pub met_whole : (n : ℕ) (reached : Reached) (last : List Span) → TellsOpen choice profile reached last
+      → moved_spans n (reached.spans ++ filter (is_told choice.ignored) last)
+      ≡ filter (is_told choice.ignored) (moved_spans n (reached.spans ++ last))
+  met_whole n reached last tells =
+      sym (told_moved choice.ignored n (reached.spans ++ last)
+      ∙ ap (moved_spans n) (filter-append (is_told choice.ignored) reached.spans last
+      ∙ ap (λ (l : List Span). l ++ filter (is_told choice.ignored) last) tells.whole))
 
   -- and what the stream knows there
-  pub met_knows : (b : Before) (reached : Reached) (front : List ℕ) (stream : Stream)
-      → reached.text ≡ front ++ open_word reached.text → StreamKnows (with_reached b reached) stream
-      → StreamKnows (behind_bytes b (met b reached front)) stream
-  met_knows b reached front stream split knows =
+  pub met_knows : (b : Before) (reached : Reached) (front : List ℕ) (last : List Span) (stream : Stream)
+      → TellsOpen choice profile reached last → EndsWith reached last → reached.text ≡ front ++ open_word reached.text
+      → StreamKnows (with_reached choice.ignored b reached) stream
+      → StreamKnows (behind_bytes choice.ignored b (met b reached front last)) stream
+  met_knows b reached front last stream tells end split knows =
+      -- an end inside a packet tells of no transaction; if it is told, it was counted
+      let out = filter (is_told choice.ignored) last in
+      let spans = reached.spans ++ out in
+      let same_ts : transactions_in (moved_spans b.n spans) ≡ transactions_in reached.spans =
+      transactions_moved b.n spans ∙ (transactions_append reached.spans out
+      ∙ (ap (λ (ts : List TransactionData). transactions_in reached.spans ++ ts)
+      (ends_tell_none choice.ignored last end.inside) ∙ append-nil (transactions_in reached.spans))) in
+      let counts = after_spans choice.ignored b.counts reached.spans in
+      let same_counts : after_spans choice.ignored b.counts (moved_spans b.n spans)
+      ≡ after_open choice.ignored counts reached.standing =
+      counts_moved choice.ignored b.counts b.n spans
+      ∙ (counts_append choice.ignored b.counts reached.spans out ∙ tells.counts counts) in
       knows_as (b.read ++ reached.text) ((b.read ++ front) ++ open_word reached.text) (b.n + length reached.events)
-      (b.ts ++ transactions_in reached.spans) (b.ts ++ transactions_in (moved_spans b.n reached.spans))
-      (after_spans b.counts reached.spans) (after_spans b.counts (moved_spans b.n reached.spans)) stream
-      (ap (λ (l : List ℕ). b.read ++ l) split ∙ sym (append_assoc b.read front (open_word reached.text)))
-      (ap (λ (l : List TransactionData). b.ts ++ l) (sym (transactions_moved b.n reached.spans)))
-      (sym (counts_moved b.counts b.n reached.spans)) knows
+      (b.ts ++ transactions_in reached.spans) (b.ts ++ transactions_in (moved_spans b.n spans))
+      (after_open choice.ignored counts reached.standing) (after_spans choice.ignored b.counts (moved_spans b.n spans))
+      stream (ap (λ (l : List ℕ). b.read ++ l) split ∙ sym (append_assoc b.read front (open_word reached.text)))
+      (ap (λ (l : List TransactionData). b.ts ++ l) (sym same_ts)) (sym same_counts) knows
 
-  pub met_lines : (b : Before) (reached : Reached) (front text more : List ℕ)
+  -- the time that the stream keeps there is that of what is under way
+  pub met_time : (reached : Reached) (front rest : List ℕ) (stream : Stream) → TimesStay
+      → reached.text ≡ front ++ open_word reached.text
+      → OpenWordIsBad reached.text (reached.text ++ rest) reached.events → KeepsOpenTime stream reached
+      → stream_time stream ≡ open_time front reached.events
+  met_time reached front rest stream stay split bad keeps =
+      let own = open_word reached.text in
+      let spells = (behind_front front (own ++ rest) reached.events (met_word reached front rest split bad)).spells in
+      keeps [] ∙ ap (λ (l : List ℕ). open_time l reached.events) (append-nil reached.text ∙ split)
+      ∙ stay front own reached.events spells
+
+  pub met_lines : (b : Before) (reached : Reached) (front text more : List ℕ) (last : List Span)
+      → TellsOpen choice profile reached last
       → reached.text ≡ front ++ open_word reached.text → AreLinesOf choice profile b reached text
-      → text ≡ object_lines choice.devices (front_objects choice profile b (longer_line (met b reached front) more))
-  met_lines b reached front text more split lines =
+      → text ≡ object_lines choice.devices
+      (front_objects choice profile b (longer_line (met b reached front last) more))
+  met_lines b reached front text more last tells split lines =
+      let spans = moved_spans b.n (reached.spans ++ filter (is_told choice.ignored) last) in
       lines more
-      ∙ ap (λ (l : List ℕ). object_lines choice.devices
-      (span_objects choice profile (event_place b.read b.n l) b.ts (moved_spans b.n reached.spans)))
+      ∙ ap (object_lines choice.devices) (objects_told choice profile b reached (reached.text ++ more) last tells)
+      ∙ ap (λ (l : List ℕ). object_lines choice.devices (text_objects choice profile b l b.ts spans))
       (ap (λ (l : List ℕ). l ++ more) split ∙ append_assoc front (open_word reached.text) more)
 
   pub has_met : (b : Before) (reached : Reached) (front at_hand text : List ℕ) (last : List Span) (stream : Stream)
       → ((p : List DeviceParts) (n m : ℕ) (events : List Event) (spans : List Span) → SpansFrom p m events spans
-      → SpansFrom p (n + m) events (moved_spans n spans))
+      → SpansFrom p (n + m) events (moved_spans n spans)) → TimesStay
       → reached.profile ≡ profile → reached.text ≡ front ++ open_word reached.text → front_word (open_word reached.text)
       ≡ open_word reached.text
       → ((more : List ℕ) → OpenWordIsBad reached.text (reached.text ++ (at_hand ++ more)) reached.events)
-      → EndsWith reached last
-      → StreamKnows (with_reached b reached) stream → AreLinesOf choice profile b reached text
+      → TellsOpen choice profile reached last → EndsWith reached last
+      → StreamKnows (with_reached choice.ignored b reached) stream → KeepsOpenTime stream reached
+      → AreLinesOf choice profile b reached text
       → HasBadWord choice profile at_hand stream b reached.text text
-  has_met b reached front at_hand text last stream move under split solid bad end knows lines = record {
-    bad = met b reached front;
-    so_far = record {
-      word = λ more. met_word reached front (at_hand ++ more) split (bad more);
-      all = moved_spans b.n (reached.spans ++ last);
-      reads = met_reads b reached last move under end;
-      reported = met_whole b.n reached last end;
-    };
-    is_text = split;
-    under_way = solid;
-    knows = met_knows b reached front stream split knows;
-    lines = λ more. met_lines b reached front text more split lines;
-  }
+  has_met b reached front at_hand text last stream move stay under split solid bad tells end knows keeps
+      lines = record {
+        bad = met b reached front last;
+        so_far = record {
+          word = λ more. met_word reached front (at_hand ++ more) split (bad more);
+          all = moved_spans b.n (reached.spans ++ last);
+          reads = met_reads b reached last move under end;
+          reported = met_whole b.n reached last tells;
+        };
+        is_text = split;
+        under_way = solid;
+        knows = met_knows b reached front last stream tells end split knows;
+        time = met_time reached front (at_hand ++ []) stream stay split (bad []) keeps;
+        lines = λ more. met_lines b reached front text more last tells split lines;
+      }
 
   -- ---- it goes on
 
@@ -243,8 +290,9 @@ module _ (choice : ChoiceData) (profile : List DeviceParts) where
   abbrev pub word_goes_on : (b : Before) (word rest at_hand used put : List ℕ) (old new : Stream)
       → at_hand ≡ word ++ rest → front_word word ≡ word
       → ((b : Before) → StreamKnows b old → StreamKnows (with_bytes b word) new)
+      → stream_time new ≡ stream_time old
       → HasBadWord choice profile at_hand old b used put → HasBadWord choice profile rest new b (used ++ word) put
-  word_goes_on b word rest at_hand used put old new split solid takes has =
+  word_goes_on b word rest at_hand used put old new split solid takes timed has =
       let bad = has.bad in record {
         bad = longer_line bad word;
         so_far = longer_so_far b bad word rest at_hand split has.so_far;
@@ -256,12 +304,13 @@ module _ (choice : ChoiceData) (profile : List DeviceParts) where
               n = b.n + length bad.events;
               ts = b.ts ++ transactions_in bad.spans;
               counts =
-                  after_spans b.counts bad.spans;
+                  after_spans choice.ignored b.counts bad.spans;
             }) new)
-            (append_assoc (b.read ++ bad.front) bad.line word) (takes (behind_bytes b bad) has.knows);
+            (append_assoc (b.read ++ bad.front) bad.line word) (takes (behind_bytes choice.ignored b bad) has.knows);
+        time = timed ∙ has.time;
         lines = λ more. has.lines (word ++ more)
             ∙ ap (λ (l : List ℕ). object_lines choice.devices
-            (span_objects choice profile (event_place b.read b.n (bad.front ++ l)) b.ts bad.spans))
+            (text_objects choice profile b (bad.front ++ l) b.ts bad.spans))
             (sym (append_assoc bad.line word more));
       }
 
@@ -292,9 +341,9 @@ module _ (choice : ChoiceData) (profile : List DeviceParts) where
               n = b.n + length bad.events;
               ts = b.ts ++ transactions_in bad.spans;
               counts =
-                  (behind_object b bad).counts;
+                  (behind_object choice.ignored b bad).counts;
             }) new)
-            (append_assoc (b.read ++ bad.front) bad.line line) (takes (behind_object b bad) has.knows);
+            (append_assoc (b.read ++ bad.front) bad.line line) (takes (behind_object choice.ignored b bad) has.knows);
         lines = λ more later rest split behind. has.lines more (line ++ later) rest
             (ap (λ (l : List ℕ). l ++ more) all ∙ (ap (λ (l : List ℕ). line ++ l) split
             ∙ sym (append_assoc line later rest))) behind

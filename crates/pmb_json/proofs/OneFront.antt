@@ -7,15 +7,15 @@ use Rattle.std.proofs.Common.{subst, append_assoc, append-nil}
 use Rattle.pmb_bus.specs.declared.event.Event.{Event}
 use Rattle.pmb_bus.specs.Text.{BeginsText, EndedWordsSpell, FirstBadWord, Spells}
 use Rattle.pmb_command.specs.Parts.{DeviceParts}
-use Rattle.pmb_spans.specs.Spans.{Span, SpansFrom, is_whole}
+use Rattle.pmb_spans.specs.Spans.{Span, SpansFrom}
 use Rattle.pmb_scan.specs.declared.after_bad_token.AfterBadToken.{AfterBadToken}
 use Rattle.pmb_scan.specs.declared.after_bad_token.AfterBadToken.TheVariants.{End, Continue}
 use Rattle.pmb_json_stream.specs.Before.{Before, at_first}
 use Rattle.pmb_json_stream.specs.Choice.{ChoiceData}
+use Rattle.pmb_json_stream.specs.Others.{is_told}
 use Rattle.pmb_json_objects.specs.Object.{Object, object_lines}
 use Rattle.pmb_json.specs.SoFar.{HasWrittenJson, IsOutOf, ReadsSoFar, SoFarFrom, StaysBad}
-use Rattle.pmb_json_stream.specs.Spans.{event_place, span_objects}
-use Rattle.pmb_json.specs.Text.{BadLine, GoesOn, IsBehindLine, bad_line_objects, behind_line}
+use Rattle.pmb_json.specs.Text.{BadLine, GoesOn, IsBehindLine, bad_line_objects, behind_line, text_objects}
 use Rattle.pmb_json.proofs.BadLines.{bad_word_in_text}
 use Rattle.pmb_json.proofs.OneText.{one_bad_line}
 
@@ -47,8 +47,8 @@ module _ (choice : ChoiceData) (profile : List DeviceParts)
       let events = one_ended bytes x.events y.events x.spells y.spells in
       let spans = one_list_of_spans b.n y.events x.spans y.spans
       (subst (λ (es : List Event). SpansFrom profile b.n es x.spans) events x.reads) y.reads in
-      x.all ∙ ap (λ (l : List Span). span_objects choice profile (event_place b.read b.n bytes) b.ts
-      (filter is_whole l)) spans ∙ sym y.all
+      x.all ∙ ap (λ (l : List Span). text_objects choice profile b bytes b.ts
+      (filter (is_told choice.ignored) l)) spans ∙ sym y.all
 
   -- a bad line is the first of its text whatever follows
   stays_first : (bad : BadLine) (rest more : List ℕ) → IsBehindLine rest → StaysBad bad rest
@@ -84,7 +84,7 @@ module _ (choice : ChoiceData) (profile : List DeviceParts)
   Behind after b more objects bad rest =
       GoesOn after rest
       (λ behind. (others : List Object) × (objects ≡ bad_line_objects choice profile b bad ++ others)
-      × SoFarFrom choice profile after (behind_line b bad) behind more others)
+      × SoFarFrom choice profile after (behind_line choice.ignored b bad) behind more others)
       ((more ≡ []) × IsOutOf choice profile b bad rest objects)
 
   one_behind : (after : AfterBadToken) (b : Before) (xs ys : List BadLine) (o p : List Object) (bad : BadLine)
@@ -96,7 +96,7 @@ module _ (choice : ChoiceData) (profile : List DeviceParts)
   one_behind Continue b xs ys o p bad [] later x y = one_out b bad [] o p x.1 y.1
   one_behind Continue b xs ys o p bad (lf ∷ bytes) later x y =
       x.1 ∙ ap (λ (os : List Object). bad_line_objects choice profile b bad ++ os)
-      (later (behind_line b bad) bytes x.0 y.0 x.2 y.2) ∙ sym y.1
+      (later (behind_line choice.ignored b bad) bytes x.0 y.0 x.2 y.2) ∙ sym y.1
 
   one_list : (after : AfterBadToken) (b : Before) (bytes : List ℕ) (xs ys : List BadLine) (objects others : List Object)
       → SoFarFrom choice profile after b bytes xs objects → SoFarFrom choice profile after b bytes ys others
@@ -111,7 +111,8 @@ module _ (choice : ChoiceData) (profile : List DeviceParts)
       y.0 x.1 y.1 x.2 y.2 x.3 y.3 in
       let there = subst (λ (rest : List ℕ). Behind after b ys others bad rest) (sym same.1)
       (subst (λ (line : BadLine). Behind after b ys others line y.0) (sym same.0) y.5) in
-      one_behind after b xs ys objects others bad x.0 (λ next behind q r u v. one_list Continue next behind xs ys q r u v)
+      one_behind after b xs ys objects others bad x.0
+      (λ next behind q r u v. one_list Continue next behind xs ys q r u v)
       x.5 there
 
   pub one_front : (after : AfterBadToken) (bytes a b : List ℕ) → HasWrittenJson choice profile after bytes a

@@ -7,16 +7,17 @@ use Rattle.pmb_bus.specs.Text.{FirstBadWord, Spells}
 use Rattle.pmb_command.specs.Parts.{DeviceParts}
 use Rattle.pmb_io.specs.Tally.{IsTallyOf}
 use Rattle.pmb_io.specs.declared.tally.Tally.{Tally}
-use Rattle.pmb_spans.specs.Spans.{Span, SpansFrom, is_whole}
+use Rattle.pmb_spans.specs.Spans.{Span, SpansFrom}
 use Rattle.pmb_scan.specs.declared.after_bad_token.AfterBadToken.{AfterBadToken}
 use Rattle.pmb_scan.specs.declared.after_bad_token.AfterBadToken.TheVariants.{End, Continue}
 use Rattle.pmb_json_stream.specs.Before.{Before, at_first}
 use Rattle.pmb_json_stream.specs.Choice.{ChoiceData}
-use Rattle.pmb_json_objects.specs.Counts.{CountsData, end_objects}
+use Rattle.pmb_json_stream.specs.Others.{is_told}
+use Rattle.pmb_json_objects.specs.Counts.{CountsData}
 use Rattle.pmb_json_objects.specs.Object.{Object, object_lines}
-use Rattle.pmb_json_stream.specs.Spans.{after_spans, event_place, span_objects}
+use Rattle.pmb_json_stream.specs.Spans.{after_spans}
 use Rattle.pmb_json.specs.Text.{BadLine, GoesOn, IsBadLine, IsBehindLine, ObjectsFrom, ReadsToEnd, WritesJson}
-use Rattle.pmb_json.specs.Text.{bad_line_objects, behind_line}
+use Rattle.pmb_json.specs.Text.{bad_line_objects, behind_line, last_objects, text_objects}
 use Rattle.pmb_json.proofs.BadLines.{bad_word_in_text, one_line}
 use Rattle.pmb_json.proofs.Lines.{same_split}
 
@@ -49,9 +50,9 @@ module _ (choice : ChoiceData) (profile : List DeviceParts)
       let events = one_spelling bytes x.events y.events x.spells y.spells in
       let spans = one_list_of_spans b.n y.events x.spans y.spans
       (subst (λ (es : List Event). SpansFrom profile b.n es x.spans) events x.reads) y.reads in (
-        x.all ∙ ap (span_objects choice profile (event_place b.read b.n bytes) b.ts) spans ∙ sym y.all,
+        x.all ∙ ap (text_objects choice profile b bytes b.ts) spans ∙ sym y.all,
         x.behind
-            ∙ ap (after_spans b.counts) spans ∙ sym y.behind,
+            ∙ ap (after_spans choice.ignored b.counts) spans ∙ sym y.behind,
       )
 
   -- the first bad word of bytes that begin with a bad line
@@ -75,14 +76,18 @@ module _ (choice : ChoiceData) (profile : List DeviceParts)
       (sym (append_assoc x.front x.line rest) ∙ sym first ∙ second ∙ append_assoc y.front y.line other) words.1 in
       let lines = one_line x.line y.line rest other bad.in_line too.in_line behind also parts.1 in
       let spans = one_list_of_spans b.n y.events bad.all too.all
-      (subst (λ (es : List Event). SpansFrom profile b.n es bad.all) words.0 bad.reads) too.reads in
-      (line_same x y parts.0 words.0 (bad.reported ∙ ap (filter is_whole) spans ∙ sym too.reported) lines.0, lines.1)
+      (subst (λ (es : List Event). SpansFrom profile b.n es bad.all) words.0 bad.reads) too.reads in (
+        line_same x y parts.0 words.0 (bad.reported ∙ ap (filter (is_told choice.ignored)) spans ∙ sym too.reported)
+            lines.0,
+        lines.1,
+      )
 
   -- what holds after a bad line
   abbrev Behind : AfterBadToken → Before → List BadLine → List Object → CountsData → BadLine → List ℕ → Type 0
   Behind after b more others counts bad rest =
-      GoesOn after rest (λ behind. ObjectsFrom choice profile after (behind_line b bad) behind more others counts)
-      ((more ≡ []) × (others ≡ []) × (counts ≡ (behind_line b bad).counts))
+      GoesOn after rest
+      (λ behind. ObjectsFrom choice profile after (behind_line choice.ignored b bad) behind more others counts)
+      ((more ≡ []) × (others ≡ []) × (counts ≡ (behind_line choice.ignored b bad).counts))
 
   -- the objects after the same bad line, if so after the next LF
   one_behind : (after : AfterBadToken) (b : Before) (xs ys : List BadLine) (o p : List Object) (c d : CountsData)
@@ -92,7 +97,7 @@ module _ (choice : ChoiceData) (profile : List DeviceParts)
       → Behind after b xs o c bad rest → Behind after b ys p d bad rest → (o ≡ p) × (c ≡ d)
   one_behind End b xs ys o p c d bad rest later x y = (x.1 ∙ sym y.1, x.2 ∙ sym y.2)
   one_behind Continue b xs ys o p c d bad [] later x y = (x.1 ∙ sym y.1, x.2 ∙ sym y.2)
-  one_behind Continue b xs ys o p c d bad (lf ∷ bytes) later x y = later (behind_line b bad) bytes x y
+  one_behind Continue b xs ys o p c d bad (lf ∷ bytes) later x y = later (behind_line choice.ignored b bad) bytes x y
 
   -- bytes have the same objects and counts, whatever their bad lines are said to be
   pub one_list : (after : AfterBadToken) (b : Before) (bytes : List ℕ) (xs ys : List BadLine)
@@ -121,8 +126,10 @@ module _ (choice : ChoiceData) (profile : List DeviceParts)
   one_text after bytes a b s t x y =
       let same = one_list after at_first bytes x.bad y.bad x.objects y.objects x.counts y.counts x.from_first
       y.from_first in (
-        x.lines ∙ ap (λ (os : List Object). object_lines choice.devices (os ++ end_objects x.counts)) same.0
-            ∙ ap (λ (c : CountsData). object_lines choice.devices (y.objects ++ end_objects c)) same.1 ∙ sym y.lines,
+        x.lines ∙ ap
+            (λ (os : List Object). object_lines choice.devices (os ++ last_objects choice profile x.counts)) same.0
+            ∙ ap (λ (c : CountsData). object_lines choice.devices (y.objects ++ last_objects choice profile c)) same.1
+            ∙ sym y.lines,
         tally_same s t x.counts.packets (x.counts.refusals + x.counts.bad_tokens) x.tallied
             (subst (λ (c : CountsData). IsTallyOf c.packets (c.refusals + c.bad_tokens) t) (sym same.1) y.tallied),
       )

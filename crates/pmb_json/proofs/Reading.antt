@@ -3,7 +3,6 @@
 -- from the scan's beginning (`Reached`), and these are moved to where the capture stands.
 use Rattle.std.proofs.Common.{◌≡◌, ℕ, ◌+◌, inl, List, [], ◌++◌, drop, filter, length, take, refl, sym, ap, subst, ◌∙◌}
 use Rattle.std.proofs.Common.{append_assoc, append-nil, arith, length-drop, take-append-drop}
-use Rattle.std.proofs.lemmas.List.{map-append}
 use Rattle.pmb_bus.specs.declared.event.Event.{Event}
 use Rattle.pmb_bus.specs.declared.lexer.LexFault.{LexFault}
 use Rattle.pmb_bus.specs.LexFault.{OpenWordIsBad}
@@ -14,26 +13,29 @@ use Rattle.pmb_io.specs.declared.tally.Tally.{Tally}
 use Rattle.pmb_scan.specs.declared.after_bad_token.AfterBadToken.{AfterBadToken}
 use Rattle.pmb_json.specs.declared.engine.Json.{Json}
 use Rattle.pmb_json.specs.SoFar.{ReadsSoFar}
-use Rattle.pmb_json.specs.Text.{IsBadLine, ReadsToEnd, WritesJson, front_objects}
+use Rattle.pmb_json.specs.Text.{IsBadLine, ReadsToEnd, WritesJson, front_objects, last_objects, text_objects}
 use Rattle.pmb_json.specs.machine.Standing.{Behind, HasBadWord, InBadWord, InWords, IsMadeAs, json_bad_words}
 use Rattle.pmb_json.specs.machine.Standing.{json_choice, json_profile, longer_line}
-use Rattle.pmb_json.proofs.MetWords.{has_met, met, met_lines, met_reads, met_whole, met_word}
+use Rattle.pmb_json.proofs.MetWords.{TimesStay, has_met, met, met_lines, met_reads, met_time, met_whole, met_word}
 use Rattle.pmb_json.proofs.Leading.{leads_first, writes_json}
-use Rattle.pmb_json.proofs.Objects.{counts_moved, lines_append, objects_append, transactions_moved}
+use Rattle.pmb_json.proofs.Objects.{counts_moved, lines_append}
+use Rattle.pmb_json.proofs.OpenOthers.{TellsOpen, objects_behind, objects_out, objects_told}
 use Rattle.pmb_json.proofs.Words.{no_lf_append, solid_no_lf}
-use Rattle.pmb_json_objects.specs.Counts.{CountsData, end_objects}
+use Rattle.pmb_json_objects.specs.Counts.{CountsData}
 use Rattle.pmb_json_objects.specs.Object.{Object, object_lines}
 use Rattle.pmb_scan.specs.declared.scan.Scan.{Scan}
 use Rattle.pmb_scan.specs.Reached.{EndsWith, Reached, at_start}
 use Rattle.pmb_scan.specs.Scan.{EndsInBadWord, EndsWords, ScanStandsAt, StopsAtBadWord, TakesAll}
-use Rattle.pmb_spans.specs.Spans.{Span, SpansFrom, is_whole, moved_span, moved_spans}
+use Rattle.pmb_spans.specs.Spans.{Span, SpansFrom, moved_spans}
 use Rattle.pmb_json_stream.specs.declared.stream.Stream.{Stream}
-use Rattle.pmb_json_stream.specs.Before.{Before, at_first}
+use Rattle.pmb_json_stream.specs.Before.{Before, at_first, with_reached}
 use Rattle.pmb_json_stream.specs.Choice.{ChoiceData}
-use Rattle.pmb_json_stream.specs.Spans.{after_spans, event_place, span_objects, transactions_in}
-use Rattle.pmb_json_stream.specs.Stream.{AreLinesOf, HasToldOf, IsSame, StreamAt, StreamBegins, StreamStands}
-use Rattle.pmb_json_stream.specs.Stream.{stream_choice, stream_profile}
-use Rattle.pmb_transaction.specs.Transaction.{TransactionData}
+use Rattle.pmb_json_stream.specs.Others.{is_told, is_untold}
+use Rattle.pmb_json_stream.specs.Spans.{after_spans, event_place, event_time, transactions_in}
+use Rattle.pmb_json_stream.specs.Stream.{AreLinesOf, HasToldOf, IsSame, StreamAt, StreamBegins, StreamKnows}
+use Rattle.pmb_json_stream.specs.Stream.{StreamStands}
+use Rattle.pmb_json_stream.specs.Stream.{stream_choice, stream_profile, stream_time}
+use Rattle.pmb_json_stream.specs.UnderWay.{open_time}
 
 abbrev pub MovesSpans : Type 0
 MovesSpans = (p : List DeviceParts) (n m : ℕ) (events : List Event) (spans : List Span) → SpansFrom p m events spans
@@ -49,6 +51,7 @@ told_first b stream profile same begins = record {
   told = λ other starts. record {
     same = record { choice = refl; profile = refl };
     at = subst (λ (p : List DeviceParts). StreamAt other stream (at_start p)) same starts;
+    time = starts.times.time.time;
     lines = λ more. refl;
   };
 }
@@ -121,19 +124,26 @@ module _ (choice : ChoiceData) (profile : List DeviceParts) (b : Before) (scan :
       subst (λ (p : List DeviceParts). AreLinesOf choice p b there text) words.same_profile
       (subst (λ (k : ChoiceData). AreLinesOf k (stream_profile words.begun) b there text) words.same_choice told.lines)
 
+  -- .. and what the stream knows
+  pub knows_by : (there : Reached) (text : List ℕ) (new : Stream) → HasToldOf b words.begun new there text
+      → StreamKnows (with_reached choice.ignored b there) new
+  knows_by there text new told =
+      subst (λ (k : ChoiceData). StreamKnows (with_reached k.ignored b there) new)
+      (told.same.choice ∙ words.same_choice) told.at.knows
+
   pub under : (there : Reached) (text : List ℕ) (new : Stream) → HasToldOf b words.begun new there text
       → there.profile ≡ profile
   under there text new told = told.at.profile ∙ (told.same.profile ∙ words.same_profile)
 
   -- one of them is no token
   pub words_to_bad : (piece more : List ℕ) (count : ℕ) (fault : LexFault) (after : Scan) (new : Stream)
-      (last : List Span) → MovesSpans
+      (last : List Span) → MovesSpans → TimesStay
       → ((text : List ℕ) → (front : List ℕ) × (text ≡ front ++ open_word text))
       → ((text : List ℕ) → front_word (open_word text) ≡ open_word text)
       → (stops : StopsAtBadWord (StreamStands words.begun new) words.reached piece count fault after (put ++ more))
-      → EndsWith stops.there last
+      → TellsOpen choice profile stops.there last → EndsWith stops.there last
       → InBadWord choice profile (drop count piece) new b (used ++ take count piece) (put ++ more)
-  words_to_bad piece more count fault after new last move begun solid stops end =
+  words_to_bad piece more count fault after new last move stay begun solid stops tells end =
       -- what the scan reached before the word, and the front before the word under way
       let there = stops.there in
       let told = stops.visited.told b words.begins in
@@ -146,10 +156,10 @@ module _ (choice : ChoiceData) (profile : List DeviceParts) (b : Before) (scan :
       ∙ (append_assoc (words.reached.text ++ take count piece) rest others ∙ ap (λ (l : List ℕ). l ++ (rest ++ others))
       (sym stops.used_up_to))) in
       -- so a bad word is met there
-      let has = has_met choice profile b there front.0 rest (put ++ more) last new move
+      let has = has_met choice profile b there front.0 rest (put ++ more) last new move stay
       (under there (put ++ more) new told) front.1 (solid there.text)
       (λ others. subst (λ (l : List ℕ). OpenWordIsBad there.text l there.events) (bytes_are others) (stops.bad others))
-      end told.at.knows (lines_by there (put ++ more) new told) in record {
+      tells end (knows_by there (put ++ more) new told) told.time (lines_by there (put ++ more) new told) in record {
         word = subst (λ (l : List ℕ). HasBadWord choice profile rest new b l (put ++ more))
             (stops.used_up_to ∙ ap (λ (l : List ℕ). l ++ take count piece) words.is_text) has;
         -- a byte of the piece is left, that which ends the word
@@ -163,122 +173,123 @@ module _ (choice : ChoiceData) (profile : List DeviceParts) (b : Before) (scan :
 
   -- ---- the bytes end
 
-  -- the objects of those before the end, and of the end
-  ends_objects : (there : Reached) (last : List Span) (place_text : List ℕ)
-      → span_objects choice profile (event_place b.read b.n place_text) b.ts (moved_spans b.n (there.spans ++ last))
-      ≡ span_objects choice profile (event_place b.read b.n place_text) b.ts (moved_spans b.n there.spans)
-      ++ span_objects choice profile (event_place b.read b.n place_text) (b.ts ++ transactions_in there.spans)
-      (moved_spans b.n last)
-  ends_objects there last place_text =
-      let place = event_place b.read b.n place_text in
-      ap (span_objects choice profile place b.ts) (map-append (moved_span b.n) there.spans last)
-      ∙ (objects_append choice profile place b.ts (moved_spans b.n there.spans) (moved_spans b.n last)
-      ∙ ap (λ (ts : List TransactionData). span_objects choice profile place b.ts (moved_spans b.n there.spans)
-      ++ span_objects choice profile place (b.ts ++ ts) (moved_spans b.n last)) (transactions_moved b.n there.spans))
-
-  -- Bytes that spell events: after the lines that were told come those of the other spans, and of
-  -- the end.
-  pub reads_on : (there : Reached) (events : List Event) (others : List Span) (own said : List ℕ) → there.text ≡ used
+  -- Bytes that spell events: after the lines that were told come those that are left of the other
+  -- spans, and of the end.
+  pub reads_on : (there : Reached) (events : List Event) (others : List Span) (left : List Object)
+      (own said : List ℕ) → there.text ≡ used
       → AreLinesOf choice profile b there own → Spells used events
       → SpansFrom profile b.n events (moved_spans b.n (there.spans ++ others))
-      → said ≡ object_lines choice.devices (span_objects choice profile (event_place b.read b.n there.text)
-      (b.ts ++ transactions_in there.spans) (moved_spans b.n others)
-      ++ end_objects (after_spans b.counts (there.spans ++ others)))
+      → text_objects choice profile b there.text (b.ts ++ transactions_in there.spans) (moved_spans b.n others)
+      ≡ objects_out choice profile b there there.text ++ left
+      → said ≡ object_lines choice.devices (left
+      ++ last_objects choice profile (after_spans choice.ignored b.counts (there.spans ++ others)))
       → (objects : List Object) × ReadsToEnd choice profile b used objects
-      (after_spans b.counts (there.spans ++ others))
+      (after_spans choice.ignored b.counts (there.spans ++ others))
       × (own ++ said ≡ object_lines choice.devices
-      (objects ++ end_objects (after_spans b.counts (there.spans ++ others))))
-  reads_on there events others own said text_is told spells reads said_are =
+      (objects ++ last_objects choice profile (after_spans choice.ignored b.counts (there.spans ++ others))))
+  reads_on there events others left own said text_is told spells reads left_is said_are =
       -- all spans, those told and the others, with their objects and counts
       let spans = moved_spans b.n (there.spans ++ others) in
-      let counts = after_spans b.counts (there.spans ++ others) in
-      let place = event_place b.read b.n used in
-      let objects = span_objects choice profile place b.ts spans in
-      let first = span_objects choice profile place b.ts (moved_spans b.n there.spans) in
-      let later = span_objects choice profile place (b.ts ++ transactions_in there.spans) (moved_spans b.n others) in
+      let counts = after_spans choice.ignored b.counts (there.spans ++ others) in
+      let objects = text_objects choice profile b there.text b.ts spans in
+      let first = text_objects choice profile b there.text b.ts (moved_spans b.n there.spans) in
+      let out = objects_out choice profile b there there.text in
+      let last = last_objects choice profile counts in
       let lines = object_lines choice.devices in
-      -- the lines that were told are those of the first spans
-      let own_is : own ≡ lines first =
-      told [] ∙ ap (λ (l : List ℕ). lines (span_objects choice profile (event_place b.read b.n l) b.ts
-      (moved_spans b.n there.spans))) (append-nil there.text ∙ text_is) in
-      -- and what is said now are those of the others, and of the end
-      let said_is : said ≡ lines (later ++ end_objects counts) =
-      said_are ∙ ap (λ (l : List ℕ). lines (span_objects choice profile (event_place b.read b.n l)
-      (b.ts ++ transactions_in there.spans) (moved_spans b.n others) ++ end_objects counts)) text_is in (
+      -- the lines that were told are those of the first spans, and of an other that is under way
+      let own_is : own ≡ lines (first ++ out) =
+      told [] ∙ ap (λ (l : List ℕ). lines (text_objects choice profile b l b.ts (moved_spans b.n there.spans)
+      ++ objects_out choice profile b there l)) (append-nil there.text) in
+      -- with what is left they are all objects
+      let all_are : (first ++ out) ++ left ≡ objects =
+      append_assoc first out left
+      ∙ (ap (λ (os : List Object). first ++ os) (sym left_is)
+      ∙ sym (objects_behind choice profile b there there.text others)) in (
         objects,
         record {
           events = events;
           spans = spans;
           spells = spells;
           reads = reads;
-          all = refl;
+          all = ap (λ (l : List ℕ). text_objects choice profile b l b.ts spans) text_is;
           behind =
-              sym (counts_moved b.counts b.n (there.spans ++ others));
+              sym (counts_moved choice.ignored b.counts b.n (there.spans ++ others));
         },
         -- together they are the lines of all
         ap (λ (l : List ℕ). l ++ said) own_is
-            ∙ (ap (λ (l : List ℕ). lines first ++ l) said_is
-            ∙ (sym (lines_append choice.devices first (later ++ end_objects counts))
-            ∙ ap lines (sym (append_assoc first later (end_objects counts))
-            ∙ ap (λ (l : List Object). l ++ end_objects counts) (sym (ends_objects there others used))))),
+            ∙ (ap (λ (l : List ℕ). lines (first ++ out) ++ l) said_are
+            ∙ (sym (lines_append choice.devices (first ++ out) (left ++ last))
+            ∙ ap lines (sym (append_assoc (first ++ out) left last)
+            ∙ ap (λ (os : List Object). os ++ last) all_are))),
       )
 
   -- the end is read
   pub reads_end : (more said : List ℕ) (after : Scan) (new : Stream) (last : List Span) → MovesSpans
-      → (ends : EndsWords (StreamStands words.begun new) words.reached after (put ++ more)) → EndsWith ends.there last
-      → said ≡ object_lines choice.devices (span_objects choice profile (event_place b.read b.n ends.there.text)
-      (b.ts ++ transactions_in ends.there.spans) (moved_spans b.n last)
-      ++ end_objects (after_spans b.counts (ends.there.spans ++ last)))
+      → (ends : EndsWords (StreamStands words.begun new) words.reached after (put ++ more))
+      → TellsOpen choice profile ends.there last → EndsWith ends.there last
+      → said ≡ object_lines choice.devices
+      (text_objects choice profile b ends.there.text (b.ts ++ transactions_in ends.there.spans)
+      (moved_spans b.n (filter (is_untold choice.ignored) last))
+      ++ last_objects choice profile (after_spans choice.ignored b.counts (ends.there.spans ++ last)))
       → (objects : List Object) × ReadsToEnd choice profile b used objects
-      (after_spans b.counts (ends.there.spans ++ last))
+      (after_spans choice.ignored b.counts (ends.there.spans ++ last))
       × (put ++ (more ++ said) ≡ object_lines choice.devices
-      (objects ++ end_objects (after_spans b.counts (ends.there.spans ++ last))))
-  reads_end more said after new last move ends end said_are =
+      (objects ++ last_objects choice profile (after_spans choice.ignored b.counts (ends.there.spans ++ last))))
+  reads_end more said after new last move ends tells end said_are =
       let there = ends.there in
       let told = ends.visited.told b words.begins in
-      let reads = reads_on there there.events last (put ++ more) said (ends.same_text ∙ words.is_text)
+      let left = text_objects choice profile b there.text (b.ts ++ transactions_in there.spans)
+      (moved_spans b.n (filter (is_untold choice.ignored) last)) in
+      let reads = reads_on there there.events last left (put ++ more) said (ends.same_text ∙ words.is_text)
       (lines_by there (put ++ more) new told)
       (subst (λ (l : List ℕ). Spells l there.events) words.is_text ends.spells)
-      (met_reads choice profile b there last move (under there (put ++ more) new told) end) said_are in
+      (met_reads choice profile b there last move (under there (put ++ more) new told) end)
+      (sym (tells.rest (event_place b.read b.n there.text) (event_time b.n there.text)
+      (b.ts ++ transactions_in there.spans) b.n)) said_are in
       (reads.0, reads.1, sym (append_assoc put more said) ∙ reads.2)
 
   -- they end in a word that is no token
   pub ends_met : (more : List ℕ) (fault : LexFault) (after : Scan) (new : Stream) (last : List Span) → MovesSpans
-      → (begun : (text : List ℕ) → (front : List ℕ) × (text ≡ front ++ open_word text))
+      → TimesStay → (begun : (text : List ℕ) → (front : List ℕ) × (text ≡ front ++ open_word text))
       → ((text : List ℕ) → front_word (open_word text) ≡ open_word text)
       → EndsInBadWord (StreamStands words.begun new) words.reached fault after (put ++ more)
-      → EndsWith words.reached last
-      → (IsBadLine choice profile b (longer_line (met choice profile b words.reached (begun words.reached.text).0) []))
+      → TellsOpen choice profile words.reached last → EndsWith words.reached last
+      → (IsBadLine choice profile b
+      (longer_line (met choice profile b words.reached (begun words.reached.text).0 last) []))
       × (used ≡ (begun words.reached.text).0 ++ open_word words.reached.text)
       × (put ++ more ≡ object_lines choice.devices
-      (front_objects choice profile b (longer_line (met choice profile b words.reached (begun words.reached.text).0)
-      [])))
-  ends_met more fault after new last move begun solid ends end =
+      (front_objects choice profile b
+      (longer_line (met choice profile b words.reached (begun words.reached.text).0 last) [])))
+      × (stream_time new ≡ open_time (begun words.reached.text).0 words.reached.events)
+  ends_met more fault after new last move stay begun solid ends tells end =
       let there = words.reached in
       let told = ends.visited.told b words.begins in
-      let front = begun there.text in (
+      let front = begun there.text in
+      let bad = subst (λ (l : List ℕ). OpenWordIsBad there.text l there.events) (sym (append-nil there.text))
+      ends.bad in (
         record {
-          word = met_word choice profile there front.0 [] front.1
-              (subst (λ (l : List ℕ). OpenWordIsBad there.text l there.events) (sym (append-nil there.text)) ends.bad);
+          word = met_word choice profile there front.0 [] front.1 bad;
           in_line = no_lf_append (open_word there.text) [] (solid_no_lf (open_word there.text) (solid there.text)) tt;
           all = moved_spans b.n (there.spans ++ last);
           reads = met_reads choice profile b there last move (under there (put ++ more) new told) end;
-          reported = met_whole choice profile b.n there last end;
+          reported = met_whole choice profile b.n there last tells;
         },
         sym words.is_text ∙ front.1,
-        met_lines choice profile b there front.0 (put ++ more) [] front.1 (lines_by there (put ++ more) new told),
+        met_lines choice profile b there front.0 (put ++ more) [] last tells front.1
+            (lines_by there (put ++ more) new told),
+        met_time choice profile there front.0 [] new stay front.1 bad told.time,
       )
 
   -- ---- so far
 
-  pub reads_so_far : (last : List Span) → MovesSpans → EndsWith words.reached last
+  pub reads_so_far : (last : List Span) → MovesSpans → TellsOpen choice profile words.reached last
+      → EndsWith words.reached last
       → (objects : List Object) × ReadsSoFar choice profile b used objects × (put ≡ object_lines choice.devices objects)
-  reads_so_far last move end =
+  reads_so_far last move tells end =
       let there = words.reached in
       let told = words.told.told b words.begins in
-      let spans = moved_spans b.n (there.spans ++ last) in
-      let place = event_place b.read b.n used in (
-        span_objects choice profile place b.ts (filter is_whole spans),
+      let spans = moved_spans b.n (there.spans ++ last) in (
+        text_objects choice profile b used b.ts (filter (is_told choice.ignored) spans),
         record {
           events = there.events;
           spans = spans;
@@ -288,11 +299,12 @@ module _ (choice : ChoiceData) (profile : List DeviceParts) (b : Before) (scan :
           all = refl;
         },
         lines_by there put stream told []
-            ∙ (ap (λ (l : List ℕ). object_lines choice.devices
-            (span_objects choice profile (event_place b.read b.n l) b.ts (moved_spans b.n there.spans)))
+            ∙ (ap (object_lines choice.devices) (objects_told choice profile b there (there.text ++ []) last tells)
+            ∙ (ap (λ (l : List ℕ). object_lines choice.devices (text_objects choice profile b l b.ts
+            (moved_spans b.n (there.spans ++ filter (is_told choice.ignored) last))))
             (append-nil there.text ∙ words.is_text)
-            ∙ ap (λ (l : List Span). object_lines choice.devices (span_objects choice profile place b.ts l))
-            (met_whole choice profile b.n there last end)),
+            ∙ ap (λ (l : List Span). object_lines choice.devices (text_objects choice profile b used b.ts l))
+            (met_whole choice profile b.n there last tells))),
       )
 
 -- all that is written where the bytes end
@@ -300,7 +312,7 @@ pub ends_json : (choice : ChoiceData) (profile : List DeviceParts) (after : Afte
     (Holds : Before → List ℕ → List ℕ → Type 0) (bytes text said : List ℕ) (counts : CountsData) (tally : Tally)
     → (behind : Behind choice profile after Holds bytes text)
     → (objects : List Object) × ReadsToEnd choice profile behind.b behind.used objects counts
-    × (behind.put ++ said ≡ object_lines choice.devices (objects ++ end_objects counts))
+    × (behind.put ++ said ≡ object_lines choice.devices (objects ++ last_objects choice profile counts))
     → IsTallyOf counts.packets (counts.refusals + counts.bad_tokens) tally
     → WritesJson choice profile after bytes (text ++ said) tally
 ends_json choice profile after Holds bytes text said counts tally behind reads tallied =

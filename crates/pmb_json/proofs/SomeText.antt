@@ -8,15 +8,17 @@ use Rattle.pmb_bus.specs.Text.{FirstBadWord, Spells}
 use Rattle.pmb_command.specs.Parts.{DeviceParts}
 use Rattle.pmb_io.specs.Count.{capped}
 use Rattle.pmb_io.specs.declared.tally.Tally.{Tally}
-use Rattle.pmb_spans.specs.Spans.{Span, SpansFrom, is_whole}
+use Rattle.pmb_spans.specs.Spans.{Span, SpansFrom}
 use Rattle.pmb_scan.specs.declared.after_bad_token.AfterBadToken.{AfterBadToken}
 use Rattle.pmb_scan.specs.declared.after_bad_token.AfterBadToken.TheVariants.{End, Continue}
 use Rattle.pmb_json_stream.specs.Before.{Before, at_first}
 use Rattle.pmb_json_stream.specs.Choice.{ChoiceData}
-use Rattle.pmb_json_objects.specs.Counts.{CountsData, end_objects}
+use Rattle.pmb_json_stream.specs.Others.{is_told}
+use Rattle.pmb_json_objects.specs.Counts.{CountsData}
 use Rattle.pmb_json_objects.specs.Object.{Object, object_lines}
-use Rattle.pmb_json_stream.specs.Spans.{after_spans, event_place, span_objects}
-use Rattle.pmb_json.specs.Text.{BadLine, GoesOn, ObjectsFrom, WritesJson, bad_line_objects, behind_line}
+use Rattle.pmb_json_stream.specs.Spans.{after_spans}
+use Rattle.pmb_json.specs.Text.{BadLine, GoesOn, ObjectsFrom, WritesJson, bad_line_objects, behind_line, last_objects}
+use Rattle.pmb_json.specs.Text.{text_objects}
 use Rattle.pmb_json.proofs.BadLines.{bad_word_of_line}
 use Rattle.pmb_json.proofs.Lines.{SplitsLine, split_line}
 
@@ -37,14 +39,15 @@ module _ (choice : ChoiceData) (profile : List DeviceParts) (some_spans : (n : �
   abbrev HasObjectsBehind : AfterBadToken → Before → BadLine → List ℕ → Type 0
   HasObjectsBehind after b bad rest =
       (more : List BadLine) × (others : List Object) × (counts : CountsData)
-      × GoesOn after rest (λ behind. ObjectsFrom choice profile after (behind_line b bad) behind more others counts)
-      ((more ≡ []) × (others ≡ []) × (counts ≡ (behind_line b bad).counts))
+      × GoesOn after rest
+      (λ behind. ObjectsFrom choice profile after (behind_line choice.ignored b bad) behind more others counts)
+      ((more ≡ []) × (others ≡ []) × (counts ≡ (behind_line choice.ignored b bad).counts))
 
   objects_behind : (after : AfterBadToken) (b : Before) (bad : BadLine) (rest : List ℕ)
-      → ((bytes : List ℕ) → length bytes < length rest → HasObjects Continue (behind_line b bad) bytes)
+      → ((bytes : List ℕ) → length bytes < length rest → HasObjects Continue (behind_line choice.ignored b bad) bytes)
       → HasObjectsBehind after b bad rest
-  objects_behind End b bad rest later = ([], [], (behind_line b bad).counts, (refl, refl, refl))
-  objects_behind Continue b bad [] later = ([], [], (behind_line b bad).counts, (refl, refl, refl))
+  objects_behind End b bad rest later = ([], [], (behind_line choice.ignored b bad).counts, (refl, refl, refl))
+  objects_behind Continue b bad [] later = ([], [], (behind_line choice.ignored b bad).counts, (refl, refl, refl))
   objects_behind Continue b bad (lf ∷ bytes) later = later bytes (omega arith)
 
   -- bytes that spell events
@@ -53,8 +56,8 @@ module _ (choice : ChoiceData) (profile : List DeviceParts) (some_spans : (n : �
   all_read after b bytes events spells =
       let read = some_spans b.n events in (
         [],
-        span_objects choice profile (event_place b.read b.n bytes) b.ts read.0,
-        after_spans b.counts read.0,
+        text_objects choice profile b bytes b.ts read.0,
+        after_spans choice.ignored b.counts read.0,
         record { events = events; spans = read.0; spells = spells; reads = read.1; all = refl; behind = refl },
       )
 
@@ -70,7 +73,7 @@ module _ (choice : ChoiceData) (profile : List DeviceParts) (some_spans : (n : �
       let bad : BadLine = record {
         front = word.front;
         events = events;
-        spans = filter is_whole read.0;
+        spans = filter (is_told choice.ignored) read.0;
         line =
             here.line;
       } in
@@ -82,7 +85,7 @@ module _ (choice : ChoiceData) (profile : List DeviceParts) (some_spans : (n : �
       omega (arith, ap length split, length-append (word.front ++ here.line) here.rest) in
       -- so it has objects, which come after those of the line
       let behind = objects_behind after b bad here.rest
-      (λ rest short. later (behind_line b bad) rest (omega (arith, short, long))) in (
+      (λ rest short. later (behind_line choice.ignored b bad) rest (omega (arith, short, long))) in (
         bad ∷ behind.0,
         bad_line_objects choice profile b bad ++ behind.1,
         behind.2,
@@ -122,7 +125,7 @@ module _ (choice : ChoiceData) (profile : List DeviceParts) (some_spans : (n : �
         refusals =
             capped (all.2.refusals + all.2.bad_tokens);
       } in (
-        object_lines choice.devices (all.1 ++ end_objects all.2),
+        object_lines choice.devices (all.1 ++ last_objects choice profile all.2),
         tally,
         record {
           bad = all.0;

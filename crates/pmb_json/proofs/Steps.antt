@@ -2,12 +2,12 @@
 -- reported), in the rest of its line, and after the LF that ends it. For `take_words`,
 -- `take_bad_word`, `drop_line`, `end_bad_word` and `take_line` of `src/engine.rt`. What stands
 -- before the bytes at hand stays (`Behind`), and the last part of it is replaced.
-use Rattle.std.proofs.Common.{◌≡◌, ◌≢◌, ◌⊎◌, ℕ, ◌+◌, ◌<◌, ◌≤◌, true, inl, inr, List, [], ◌∷◌, ◌++◌, drop, length, take}
+use Rattle.std.proofs.Common.{◌≡◌, ◌≢◌, ◌⊎◌, ℕ, ◌+◌, ◌<◌, ◌≤◌, true, inl, inr, Option, List, [], ◌∷◌, ◌++◌, drop}
+use Rattle.std.proofs.Common.{length}
 use Rattle.std.proofs.Common.{refl, sym, ap, subst, ◌∙◌, append_assoc, append-nil, arith, length-append, length-take}
-use Rattle.std.proofs.Common.{take-append-drop}
+use Rattle.std.proofs.Common.{take, take-append-drop}
 use Rattle.pmb_bus.specs.Text.{EndsBetween, front_word, is_word, open_word}
 use Rattle.pmb_command.specs.Parts.{DeviceParts}
-use Rattle.pmb_io.specs.Count.{capped}
 use Rattle.pmb_io.specs.Tally.{IsTallyOf}
 use Rattle.pmb_io.specs.declared.tally.Tally.{Tally}
 use Rattle.pmb_scan.specs.declared.after_bad_token.AfterBadToken.{AfterBadToken}
@@ -15,11 +15,11 @@ use Rattle.pmb_scan.specs.declared.after_bad_token.AfterBadToken.TheVariants.{En
 use Rattle.pmb_json.specs.declared.engine.Json.{Json}
 use Rattle.pmb_json.specs.Json.{StopsJson}
 use Rattle.pmb_json.specs.Text.{BadLine, IsBadLine, IsBehindLine, WritesJson, bad_line_objects, behind_line}
-use Rattle.pmb_json.specs.Text.{front_objects}
+use Rattle.pmb_json.specs.Text.{front_objects, last_objects}
 use Rattle.pmb_json.specs.machine.Ends.{EndsLine}
 use Rattle.pmb_json.specs.machine.Standing.{Behind, BehindBadWord, HasBadWord, InBadLine, InBadWord, InWords}
 use Rattle.pmb_json.specs.machine.Standing.{IsBadSoFar, IsMadeAs, behind_bytes, behind_object, json_bad_words}
-use Rattle.pmb_json.specs.machine.Standing.{json_profile, last_word_objects, longer_line}
+use Rattle.pmb_json.specs.machine.Standing.{json_profile, last_word_objects, longer_line, open_word_object}
 use Rattle.pmb_json.proofs.MetWords.{StandsThere, word_goes_on, first_so_far, knows_as, lines_with_counts}
 use Rattle.pmb_json.proofs.MetWords.{lines_with_last, lines_with_word, stands_there, word_is}
 use Rattle.pmb_json.proofs.Leading.{bad_line_is, leads_line, writes_bad_line}
@@ -27,8 +27,6 @@ use Rattle.pmb_json.proofs.Lines.{behind_front, front_cut, never_under_way, same
 use Rattle.pmb_json.proofs.Objects.{lines_append}
 use Rattle.pmb_json.proofs.Reading.{words_begin}
 use Rattle.pmb_json.proofs.Words.{solid_no_lf, solid_then}
-use Rattle.pmb_json_objects.specs.BadToken.{bad_token_object}
-use Rattle.pmb_json_objects.specs.Counts.{end_objects}
 use Rattle.pmb_json_objects.specs.Object.{object_lines}
 use Rattle.pmb_places.specs.Places.{place_behind, place_of_last_word}
 use Rattle.pmb_json_stream.specs.declared.stream.Stream.{Stream}
@@ -38,6 +36,8 @@ use Rattle.pmb_scan.specs.Scan.{ScanStandsAt}
 use Rattle.pmb_json_stream.specs.Before.{Before, with_bytes}
 use Rattle.pmb_json_stream.specs.Choice.{ChoiceData}
 use Rattle.pmb_json_stream.specs.Stream.{IsSame, StreamBegins, StreamKnows, stream_choice, stream_profile}
+use Rattle.pmb_json_stream.specs.Stream.{stream_time}
+use Rattle.pmb_json_stream.specs.UnderWay.{open_time}
 
 -- ---- bytes and text more
 
@@ -159,6 +159,7 @@ word_at_hand choice profile at_hand b used put stream word = record {
     is_text = word.word.is_text;
     under_way = word.word.under_way;
     knows = word.word.knows;
+    time = word.word.time;
     lines = word.word.lines;
   };
   short = λ none. word.short refl;
@@ -186,14 +187,14 @@ line_at_hand choice profile at_hand b used put stream line = record {
 module _ (choice : ChoiceData) (profile : List DeviceParts) (opened : OpensWord) (b : Before)
     (between : EndsBetween b.read) (at_hand word rest used put : List ℕ) (old new : Stream)
     (split : at_hand ≡ word ++ rest) (solid : front_word word ≡ word) (takes : (b : Before) → StreamKnows b old
-    → StreamKnows (with_bytes b word) new)
+    → StreamKnows (with_bytes b word) new) (timed : stream_time new ≡ stream_time old)
     (has : HasBadWord choice profile at_hand old b used put) where
   -- the word goes on
   abbrev pub goes_on : HasBadWord choice profile rest new b (used ++ word) put
-  goes_on = word_goes_on choice profile b word rest at_hand used put old new split solid takes has
+  goes_on = word_goes_on choice profile b word rest at_hand used put old new split solid takes timed has
 
   -- more of it may come
-  pub waits : rest ≡ [] → (length (take 32 (open_word (behind_bytes b (goes_on).bad).read)) < 32)
+  pub waits : rest ≡ [] → (length (take 32 (open_word (behind_bytes choice.ignored b (goes_on).bad).read)) < 32)
       → InBadWord choice profile [] new b (used ++ at_hand) put
   waits none few =
       let all : word ≡ at_hand = sym (split ∙ (ap (λ (l : List ℕ). word ++ l) none ∙ append-nil word)) in
@@ -212,6 +213,7 @@ module _ (choice : ChoiceData) (profile : List DeviceParts) (opened : OpensWord)
           is_text = now.is_text;
           under_way = now.under_way;
           knows = now.knows;
+          time = now.time;
           lines = now.lines;
         };
         short = λ _. short;
@@ -219,8 +221,8 @@ module _ (choice : ChoiceData) (profile : List DeviceParts) (opened : OpensWord)
 
   -- or no more of it is told
   pub is_behind : (front_word rest ≡ []) ⊎
-      (32 ≤ length (take 32 (open_word (behind_bytes b has.bad).read)) + length word)
-      → (rest ≢ []) ⊎ (32 ≤ length (take 32 (open_word (behind_bytes b (goes_on).bad).read)))
+      (32 ≤ length (take 32 (open_word (behind_bytes choice.ignored b has.bad).read)) + length word)
+      → (rest ≢ []) ⊎ (32 ≤ length (take 32 (open_word (behind_bytes choice.ignored b (goes_on).bad).read)))
       → BehindBadWord choice profile rest new b (used ++ word) put
   is_behind stops (inr full) = record {
     word = goes_on;
@@ -265,10 +267,9 @@ module _ (choice : ChoiceData) (profile : List DeviceParts) (after : AfterBadTok
 
     -- its object is out, and its line is dropped
     pub drops_line : (said : List ℕ) (new : Stream)
-        → said ≡ object_lines choice.devices (bad_token_object (capped (behind_bytes behind.b behind.holds.word.bad).n)
-        (place_of_last_word (behind_bytes behind.b behind.holds.word.bad).read)
-        (open_word (behind_bytes behind.b behind.holds.word.bad).read) ∷ [])
-        → StreamKnows (behind_object behind.b behind.holds.word.bad) new
+        → said ≡ object_lines choice.devices
+        (open_word_object (stream_time old) (behind_bytes choice.ignored behind.b behind.holds.word.bad) ∷ [])
+        → StreamKnows (behind_object choice.ignored behind.b behind.holds.word.bad) new
         → Behind choice profile after (InBadLine choice profile rest new) bytes (text ++ said)
     drops_line said new said_are knows =
         let has = behind.holds.word in
@@ -282,15 +283,18 @@ module _ (choice : ChoiceData) (profile : List DeviceParts) (after : AfterBadTok
           knows = knows;
           lines = λ more line after_line split is_behind. lines_with_word choice profile behind.b has.bad line
               behind.put said _ (has.lines line) said_are
-              (word_is choice profile behind.b has.bad line there (told_up_to more line after_line split is_behind));
+              (word_is choice profile behind.b has.bad line (stream_time old) there has.time
+              (told_up_to more line after_line split is_behind));
         })
 
     -- or reading ends there, whatever follows
     pub stops_at : (tail said : List ℕ) (tally : Tally) → after ≡ End
-        → said ≡ object_lines choice.devices (last_word_objects (behind_bytes behind.b behind.holds.word.bad))
-        → IsTallyOf (behind_object behind.b behind.holds.word.bad).counts.packets
-        ((behind_object behind.b behind.holds.word.bad).counts.refusals +
-        (behind_object behind.b behind.holds.word.bad).counts.bad_tokens) tally
+        → said ≡ object_lines choice.devices
+        (last_word_objects choice profile (stream_time old)
+        (behind_bytes choice.ignored behind.b behind.holds.word.bad))
+        → IsTallyOf (behind_object choice.ignored behind.b behind.holds.word.bad).counts.packets
+        ((behind_object choice.ignored behind.b behind.holds.word.bad).counts.refusals +
+        (behind_object choice.ignored behind.b behind.holds.word.bad).counts.bad_tokens) tally
         → WritesJson choice profile after ((bytes ++ rest) ++ tail) (text ++ said) tally
     stops_at tail said tally ends said_are tallied =
         let has = behind.holds.word in
@@ -307,14 +311,16 @@ module _ (choice : ChoiceData) (profile : List DeviceParts) (after : AfterBadTok
         (longer_line bad s.line) s.rest tally bytes_are
         (bad_line_is choice profile behind.b bad rest tail s.line s.rest has.so_far s.split
         (solid_no_lf bad.line has.under_way) s.in_line s.behind) s.behind (inl ends)
-        (lines_with_last choice profile behind.b bad s.line behind.put said there
+        (lines_with_last choice profile behind.b bad s.line behind.put said (stream_time old) there has.time
         (told_up_to tail s.line s.rest s.split s.behind) (has.lines s.line) said_are) tallied)
 
     pub stops_json : (said : List ℕ) (tally : Tally) → after ≡ End
-        → said ≡ object_lines choice.devices (last_word_objects (behind_bytes behind.b behind.holds.word.bad))
-        → IsTallyOf (behind_object behind.b behind.holds.word.bad).counts.packets
-        ((behind_object behind.b behind.holds.word.bad).counts.refusals +
-        (behind_object behind.b behind.holds.word.bad).counts.bad_tokens) tally
+        → said ≡ object_lines choice.devices
+        (last_word_objects choice profile (stream_time old)
+        (behind_bytes choice.ignored behind.b behind.holds.word.bad))
+        → IsTallyOf (behind_object choice.ignored behind.b behind.holds.word.bad).counts.packets
+        ((behind_object choice.ignored behind.b behind.holds.word.bad).counts.refusals +
+        (behind_object choice.ignored behind.b behind.holds.word.bad).counts.bad_tokens) tally
         → StopsJson choice profile after (bytes ++ rest) (text ++ said) tally
     stops_json said tally ends said_are tallied = record {
       ends = ends;
@@ -327,15 +333,17 @@ module _ (choice : ChoiceData) (profile : List DeviceParts) (after : AfterBadTok
 
   module _ (Holds : Before → List ℕ → List ℕ → Type 0) (behind : Behind choice profile after Holds bytes text) where
     -- in a word that is no token
-    pub ends_in_word : (opened : OpensWord) (placed : PlacesWord) (bad : BadLine) (said : List ℕ) (tally : Tally)
-        → behind.used ≡ bad.front ++ bad.line
+    pub ends_in_word : (opened : OpensWord) (placed : PlacesWord) (bad : BadLine) (time : Option (List ℕ))
+        (said : List ℕ) (tally : Tally) → time ≡ open_time bad.front bad.events → behind.used ≡ bad.front ++ bad.line
         → IsBadLine choice profile behind.b (longer_line bad []) → front_word bad.line ≡ bad.line
         → behind.put ≡ object_lines choice.devices (front_objects choice profile behind.b (longer_line bad []))
-        → said ≡ object_lines choice.devices (last_word_objects (behind_bytes behind.b bad))
-        → IsTallyOf (behind_object behind.b bad).counts.packets
-        ((behind_object behind.b bad).counts.refusals + (behind_object behind.b bad).counts.bad_tokens) tally
+        → said ≡ object_lines choice.devices
+        (last_word_objects choice profile time (behind_bytes choice.ignored behind.b bad))
+        → IsTallyOf (behind_object choice.ignored behind.b bad).counts.packets
+        ((behind_object choice.ignored behind.b bad).counts.refusals
+        + (behind_object choice.ignored behind.b bad).counts.bad_tokens) tally
         → WritesJson choice profile after bytes (text ++ said) tally
-    ends_in_word opened placed bad said tally used_are is_bad solid put_are said_are tallied =
+    ends_in_word opened placed bad time said tally timed used_are is_bad solid put_are said_are tallied =
         let told_line : take 32 (front_word (bad.line ++ [])) ≡ take 32 bad.line =
         ap (take 32) (solid_then bad.line [] solid ∙ append-nil bad.line) in
         let stands = stands_there opened placed behind.b bad [] behind.between is_bad.word solid told_line in
@@ -343,16 +351,18 @@ module _ (choice : ChoiceData) (profile : List DeviceParts) (after : AfterBadTok
         (writes_bad_line choice profile after Holds bytes text behind [] said (longer_line bad []) [] tally
         (append-nil behind.used ∙ (used_are ∙ ap (λ (l : List ℕ). bad.front ++ l)
         (sym (append-nil bad.line) ∙ sym (append-nil (bad.line ++ [])))))
-        is_bad tt (inr refl) (lines_with_last choice profile behind.b bad [] behind.put said stands told_line put_are
-        said_are) tallied)
+        is_bad tt (inr refl) (lines_with_last choice profile behind.b bad [] behind.put said time stands timed told_line
+        put_are said_are) tallied)
 
     -- in the rest of its line
     pub ends_in_line : (bad : BadLine) (said : List ℕ) (tally : Tally) → behind.used ≡ bad.front ++ bad.line
         → IsBadLine choice profile behind.b (longer_line bad [])
         → behind.put ≡ object_lines choice.devices (bad_line_objects choice profile behind.b (longer_line bad []))
-        → said ≡ object_lines choice.devices (end_objects (behind_object behind.b bad).counts)
-        → IsTallyOf (behind_object behind.b bad).counts.packets
-        ((behind_object behind.b bad).counts.refusals + (behind_object behind.b bad).counts.bad_tokens) tally
+        → said ≡ object_lines choice.devices
+        (last_objects choice profile (behind_object choice.ignored behind.b bad).counts)
+        → IsTallyOf (behind_object choice.ignored behind.b bad).counts.packets
+        ((behind_object choice.ignored behind.b bad).counts.refusals
+        + (behind_object choice.ignored behind.b bad).counts.bad_tokens) tally
         → WritesJson choice profile after bytes (text ++ said) tally
     ends_in_line bad said tally used_are is_bad put_are said_are tallied =
         subst (λ (l : List ℕ). WritesJson choice profile after l (text ++ said) tally) (append-nil bytes)
@@ -360,7 +370,7 @@ module _ (choice : ChoiceData) (profile : List DeviceParts) (after : AfterBadTok
         (append-nil behind.used ∙ (used_are ∙ ap (λ (l : List ℕ). bad.front ++ l)
         (sym (append-nil bad.line) ∙ sym (append-nil (bad.line ++ [])))))
         is_bad tt (inr refl) (lines_with_counts choice profile behind.b bad [] behind.put said
-        (behind_object behind.b bad).counts put_are said_are) tallied)
+        (behind_object choice.ignored behind.b bad).counts put_are said_are) tallied)
 
 -- ---- a line ends
 
@@ -410,17 +420,19 @@ begins_anew choice profile after given text at_hand count old mid new scan goes 
     refl in
     -- all bytes that were read end after the LF, between words
     let rest_is : take (count + 1) at_hand ≡ line ++ 10 ∷ [] = front_is in
-    let read_is : ((b.read ++ bad.front) ++ bad.line) ++ take (count + 1) at_hand ≡ (behind_line b longer).read =
+    let read_is : ((b.read ++ bad.front) ++ bad.line) ++ take (count + 1) at_hand
+    ≡ (behind_line choice.ignored b longer).read =
     ap (λ (l : List ℕ). ((b.read ++ bad.front) ++ bad.line) ++ l) rest_is
     ∙ (sym (append_assoc ((b.read ++ bad.front) ++ bad.line) line (10 ∷ []))
     ∙ ap (λ (l : List ℕ). l ++ 10 ∷ []) (append_assoc (b.read ++ bad.front) bad.line line)) in
-    let between : EndsBetween (behind_line b longer).read = lines ((b.read ++ bad.front) ++ (bad.line ++ line)) in
+    let between : EndsBetween (behind_line choice.ignored b longer).read =
+    lines ((b.read ++ bad.front) ++ (bad.line ++ line)) in
     -- the stream knows of them, and is cleared there
-    let knows : StreamKnows (behind_line b longer) mid =
-    knows_as _ (behind_line b longer).read _ _ _ _ _ mid read_is refl refl
-    (takes (behind_object b bad) has.knows) in record {
+    let knows : StreamKnows (behind_line choice.ignored b longer) mid =
+    knows_as _ (behind_line choice.ignored b longer).read _ _ _ _ _ mid read_is refl refl
+    (takes (behind_object choice.ignored b bad) has.knows) in record {
       -- reading begins anew with nothing used and nothing written
-      b = behind_line b longer;
+      b = behind_line choice.ignored b longer;
       bads = behind.bads ++ longer ∷ [];
       objects = behind.objects ++ bad_line_objects choice profile b longer;
       leads = leads_line choice profile after b behind.bads behind.objects longer goes behind.leads is_bad;
@@ -431,13 +443,13 @@ begins_anew choice profile after given text at_hand count old mid new scan goes 
       bytes_are = ap (λ (l : List ℕ). l ++ take (count + 1) at_hand)
           (behind.bytes_are ∙ ap (λ (l : List ℕ). b.read ++ l) has.is_text)
           ∙ (ap (λ (l : List ℕ). l ++ take (count + 1) at_hand) (sym (append_assoc b.read bad.front bad.line))
-          ∙ (read_is ∙ sym (append-nil (behind_line b longer).read)));
+          ∙ (read_is ∙ sym (append-nil (behind_line choice.ignored b longer).read)));
       text_is = behind.text_is
           ∙ (ap (λ (l : List ℕ). object_lines choice.devices behind.objects ++ l)
           (has.lines [] line (10 ∷ tail) split refl)
           ∙ (sym (lines_append choice.devices behind.objects (bad_line_objects choice profile b longer))
           ∙ sym (append-nil (object_lines choice.devices
           (behind.objects ++ bad_line_objects choice profile b longer)))));
-      holds = words_begin choice profile scan new (behind_line b longer) same_choice same_profile
-          (begin (behind_line b longer) knows between) scans;
+      holds = words_begin choice profile scan new (behind_line choice.ignored b longer) same_choice same_profile
+          (begin (behind_line choice.ignored b longer) knows between) scans;
     }

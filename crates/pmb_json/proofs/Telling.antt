@@ -8,8 +8,10 @@ use Rattle.pmb_bus.specs.declared.event.Event.{Event}
 use Rattle.pmb_command.specs.Parts.{DeviceParts, device_with}
 use Rattle.pmb_unknown_start.specs.declared.start.Start.{Start}
 use Rattle.pmb_unknown_start.specs.declared.start.Start.TheVariants.{AllKnown, Late, LateFixedMode}
-use Rattle.pmb_unknown_start.specs.Known.{KnownPaging, first_known, first_page, known, learn_bytes, learn_mode}
-use Rattle.pmb_unknown_start.specs.Known.{learn_told, learn_transaction, learn_value, page}
+use Rattle.pmb_unknown_start.specs.Known.{KnownPaging, first_known, first_page, forget_modes, known, learn_bytes}
+use Rattle.pmb_unknown_start.specs.Known.{learn_mode, learn_told, learn_transaction, learn_value, learn_written, page}
+use Rattle.pmb_unknown_start.specs.Known.{told_by_read}
+use Rattle.pmb_unknown_start.specs.Restores.{untells}
 use Rattle.pmb_note.specs.Paging.{RegisterTold, page_code, told, told_by_part, vout_mode_code}
 use Rattle.pmb_json_text.specs.Spelling.{AreBytes}
 use Rattle.pmb_transaction.specs.Packet.{Packet, PartsEvents}
@@ -76,16 +78,41 @@ module _ (device : DeviceParts) where
   behind_one t k small is = of_either HasBytePage (nat_eq t.addr device.address) (learn_bytes device t.code t.bytes k) k
       (behind_bytes t.code t.bytes k small is) is
 
-  behind_each : (all : List RegisterTold) (k : KnownPaging) → AreTold all → HasBytePage k
-      → HasBytePage (fold (learn_told device) k all)
-  behind_each [] k small is = is
-  behind_each (t ∷ all) k small is = behind_each all (learn_told device k t) small.1 (behind_one t k small.0 is)
+  -- VOUT_MODE may be untold after a write; PAGE stays
+  behind_forgetting : (start : Start) (k : KnownPaging) → HasBytePage k → HasBytePage (forget_modes start k)
+  behind_forgetting AllKnown k is = is
+  behind_forgetting Late k is = is
+  behind_forgetting LateFixedMode k is = is
 
-  behind_transactions : (ts : List TransactionData) (k : KnownPaging) → AllTellBytes ts → HasBytePage k
-      → HasBytePage (fold (learn_transaction device) k ts)
-  behind_transactions [] k tell is = is
-  behind_transactions (t ∷ ts) k tell is = behind_transactions ts (learn_transaction device k t) tell.1
-      (behind_each (told t) k tell.0 is)
+  module _ (start : Start) where
+    behind_write : (t : RegisterTold) (k : KnownPaging) → AreBytes t.bytes → HasBytePage k
+        → HasBytePage (learn_written start device k t)
+    behind_write t k small is =
+        let now = learn_told device k t in
+        let told_now = behind_one t k small is in
+        of_either HasBytePage (untells device.address t) (forget_modes start now) now
+        (behind_forgetting start now told_now) told_now
+
+    behind_writes : (all : List RegisterTold) (k : KnownPaging) → AreTold all → HasBytePage k
+        → HasBytePage (fold (learn_written start device) k all)
+    behind_writes [] k small is = is
+    behind_writes (t ∷ all) k small is =
+        behind_writes all (learn_written start device k t) small.1 (behind_write t k small.0 is)
+
+    behind_transaction : (t : TransactionData) (k : KnownPaging) → TellsBytes t → HasBytePage k
+        → HasBytePage (learn_transaction start device k t)
+    behind_transaction (Write parts) k tell is = behind_writes (map told_by_part parts) k tell is
+    behind_transaction (Read t) k tell is = behind_one (told_by_read t) k tell.0 is
+    behind_transaction (Call t) k tell is = is
+    behind_transaction (Refused t) k tell is = behind_writes (map told_by_part t.parts) k tell is
+    behind_transaction (Alert t) k tell is = is
+    behind_transaction NoAlert k tell is = is
+
+    behind_transactions : (ts : List TransactionData) (k : KnownPaging) → AllTellBytes ts → HasBytePage k
+        → HasBytePage (fold (learn_transaction start device) k ts)
+    behind_transactions [] k tell is = is
+    behind_transactions (t ∷ ts) k tell is = behind_transactions ts (learn_transaction start device k t) tell.1
+        (behind_transaction t k tell.0 is)
 
 at_first_known : (start : Start) → IsByteIfKnown (first_page start)
 at_first_known AllKnown = omega arith
@@ -95,7 +122,7 @@ at_first_known LateFixedMode = tt
 page_of : (start : Start) (ts : List TransactionData) (found : Option DeviceParts) → AllTellBytes ts
     → IsByteIfKnown (option_and_then (λ device. (known start device ts).page) found)
 page_of start ts None tell = tt
-page_of start ts (Some device) tell = behind_transactions device ts (first_known start device) tell
+page_of start ts (Some device) tell = behind_transactions device start ts (first_known start device) tell
     (at_first_known start)
 
 -- PAGE is a byte after transactions that tell bytes

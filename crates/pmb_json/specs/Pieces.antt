@@ -1,5 +1,5 @@
 -- What is said of a piece of a capture, beside what is said of the whole.
-use Rattle.std.specs.Prelude.{◌≡◌, ◌⊎◌, ℕ, Some, List, [], ◌∷◌, codes}
+use Rattle.std.specs.Prelude.{◌≡◌, ◌⊎◌, ℕ, ◌+◌, IfSome, Option, Some, List, [], ◌∷◌, ◌++◌, codes}
 use Rattle.std.specs.List.{Contains}
 use Rattle.pmb_bus.specs.declared.event.Event.{Event}
 use Rattle.pmb_bus.specs.Text.{EndsBetween, Spells}
@@ -17,30 +17,52 @@ use Rattle.pmb_json_stream.specs.Spans.{transactions_in}
 abbrev pub IsWhere : Member → Type 0
 IsWhere m = (m.key ≡ codes "at") ⊎ ((m.key ≡ codes "line") ⊎ (m.key ≡ codes "column"))
 
--- that PAGE, or the VOUT_MODE of a voltage, is not known
+-- that PAGE, or the VOUT_MODE of a voltage, is not known, or that this one is assumed
 abbrev pub IsUnknown : Member → Type 0
-IsUnknown m = (m ≡ named (codes "page") null) ⊎ (m ≡ named (codes "raw") (string (codes "unknown")))
+IsUnknown m =
+    (m ≡ named (codes "page") null)
+    ⊎ ((m ≡ named (codes "raw") (string (codes "unknown"))) ⊎ (m ≡ named (codes "mode") (string (codes "assumed"))))
+
+-- A time that a piece tells is that of the whole. (Where the cut is after a time line, the piece
+-- lacks that one.)
+abbrev pub TellsNoMore : Option (List ℕ) → Option (List ℕ) → Type 0
+TellsNoMore piece whole = IfSome piece (λ time. whole ≡ Some time)
+
+-- so does that of each packet of a piece, before which n events come in the whole
+abbrev pub TellNoMore : ℕ → (ℕ → Option (List ℕ)) → (ℕ → Option (List ℕ)) → Type 0
+TellNoMore n times theirs = (at : ℕ) → TellsNoMore (times at) (theirs (n + at))
 
 -- the exact value, and the nearest number
 abbrev pub IsNumber : Member → Type 0
 IsNumber m = (m.key ≡ codes "value") ⊎ (m.key ≡ codes "number")
 
--- Each member that a piece gives is given by the whole, but for where it begins and what is not
--- known.
-pub record SayNoMore (piece whole : List Member) : Type 0 where
-  pub each : (m : Member) → Contains piece m → IsWhere m ⊎ (IsUnknown m ⊎ Contains whole m)
+-- whether a piece tells the times of the whole, or may tell others
+pub data Timing : Type 0 where
+  SameTimes : Timing
+  OtherTimes : Timing
+
+-- Each member that a piece gives is given by the whole, but for where it begins, for what is not
+-- known, and for a time that may be another.
+pub record SayNoMore (timing : Timing) (piece whole : List Member) : Type 0 where
+  pub each : (m : Member) → Contains piece m
+      → IsWhere m ⊎ (IsUnknown m ⊎ (((timing ≡ OtherTimes) × (m.key ≡ codes "time")) ⊎ Contains whole m))
 
 -- An object of a piece is of the same device as that of the whole, and says no more.
-pub record SaysNoMore (piece whole : Object) : Type 0 where
+pub record SaysNoMore (timing : Timing) (piece whole : Object) : Type 0 where
   pub device : piece.device ≡ whole.device
-  pub members : SayNoMore piece.members whole.members
+  pub members : SayNoMore timing piece.members whole.members
 
 -- objects of a piece, each beside that of the whole
-abbrev pub EachSaysNoMore : List Object → List Object → Type 0
-EachSaysNoMore [] [] = Unit {0}
-EachSaysNoMore [] (whole ∷ others) = ⊥
-EachSaysNoMore (piece ∷ pieces) [] = ⊥
-EachSaysNoMore (piece ∷ pieces) (whole ∷ others) = SaysNoMore piece whole × EachSaysNoMore pieces others
+abbrev pub EachSaysNoMore : Timing → List Object → List Object → Type 0
+EachSaysNoMore timing [] [] = Unit {0}
+EachSaysNoMore timing [] (whole ∷ others) = ⊥
+EachSaysNoMore timing (piece ∷ pieces) [] = ⊥
+EachSaysNoMore timing (piece ∷ pieces) (whole ∷ others) =
+    SaysNoMore timing piece whole × EachSaysNoMore timing pieces others
+
+-- the last byte is an LF
+abbrev pub EndsWithLine : List ℕ → Type 0
+EndsWithLine front = (lines : List ℕ) × (front ≡ lines ++ codes "\n")
 
 -- After such bytes a capture can be cut, so that the rest is read late: they spell events of which
 -- the last is STOP, they end in no word and no comment, and what they tell of PAGE and VOUT_MODE is

@@ -6,11 +6,12 @@ use Rattle.pmb_bus.specs.Text.{BeginsText, EndedWordsSpell, FirstBadWord, front_
 use Rattle.pmb_command.specs.Parts.{DeviceParts}
 use Rattle.pmb_scan.specs.declared.after_bad_token.AfterBadToken.{AfterBadToken}
 use Rattle.pmb_json_objects.specs.Object.{Object, object_lines}
-use Rattle.pmb_spans.specs.Spans.{Span, SpansFrom, is_whole}
+use Rattle.pmb_spans.specs.Spans.{Span, SpansFrom}
 use Rattle.pmb_json_stream.specs.Before.{Before, at_first}
 use Rattle.pmb_json_stream.specs.Choice.{ChoiceData}
-use Rattle.pmb_json_stream.specs.Spans.{event_place, span_objects}
+use Rattle.pmb_json_stream.specs.Others.{is_told}
 use Rattle.pmb_json.specs.Text.{BadLine, GoesOn, IsBadLine, IsBehindLine, bad_line_objects, behind_line, front_objects}
+use Rattle.pmb_json.specs.Text.{text_objects}
 
 -- The bytes end inside the word of a bad line, and fewer than 32 of its bytes have come.
 abbrev pub IsUnderWay : List ℕ → List ℕ → Type 0
@@ -23,14 +24,14 @@ StaysBad bad rest = rest ≡ [] → (others : List ℕ)
 
 module _ (choice : ChoiceData) (profile : List DeviceParts) where
   -- Bytes that begin some text that spells events: the objects of the packets and refusals of the
-  -- words that have ended.
+  -- words that have ended, and of an other whose address came.
   pub record ReadsSoFar (b : Before) (bytes : List ℕ) (objects : List Object) : Type 0 where
     pub events : List Event
     pub spans : List Span
     pub begins : BeginsText bytes
     pub spells : EndedWordsSpell bytes events
     pub reads : SpansFrom profile b.n events spans
-    pub all : objects ≡ span_objects choice profile (event_place b.read b.n bytes) b.ts (filter is_whole spans)
+    pub all : objects ≡ text_objects choice profile b bytes b.ts (filter (is_told choice.ignored) spans)
 
   -- A bad word that has not ended at the end of the bytes waits until 32 of its bytes have come;
   -- then, or where it has ended, its object is out.
@@ -48,7 +49,7 @@ module _ (choice : ChoiceData) (profile : List DeviceParts) where
       × StaysBad bad rest
       × GoesOn after rest
       (λ behind. (others : List Object) × (objects ≡ bad_line_objects choice profile b bad ++ others)
-      × SoFarFrom after (behind_line b bad) behind more others)
+      × SoFarFrom after (behind_line choice.ignored b bad) behind more others)
       ((more ≡ []) × IsOutOf b bad rest objects)
 
   -- the text so far

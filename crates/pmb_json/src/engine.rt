@@ -19,16 +19,18 @@ ghost use Rattle.pmb_json_objects.specs.Counts.{after_bad_token};
 ghost use Rattle.pmb_json_objects.specs.Object.{object_lines};
 ghost use Rattle.pmb_json_stream.specs.Before.{Before};
 ghost use Rattle.pmb_json_stream.specs.Choice.{choice_data};
-ghost use Rattle.pmb_json_stream.specs.Stream.{StreamKnows, stream_choice};
+ghost use Rattle.pmb_json_stream.specs.Stream.{StreamKnows, stream_choice, stream_profile, stream_time};
 
 use crate::word_end::{behind, is_over, line_bytes, word_bytes};
 use crate::word_laws::bad_words_stand_there;
 use pmb_bus::laws::{ended_words_lead_on, spelled_has_no_bad_word, texts_may_be_cut_between_words};
 use pmb_io::{Engine, Flow, RunFault, Sink, Tally, Waiting};
+use pmb_json_stream::laws::{open_times_stay, others_are_told};
 use pmb_json_stream::{Choice, Stream};
+use pmb_reader::laws::some_packet_is_read;
 use pmb_scan::laws::scans_lead_on;
 use pmb_scan::{AfterBadToken, PieceEnd, Scan};
-use pmb_spans::laws::spans_move;
+use pmb_spans::laws::{each_list_has_spans, one_list_of_spans, spans_move};
 use pmb_table::Profile;
 
 /// What the next byte belongs to.
@@ -78,6 +80,7 @@ impl<'p> Json<'p> {
             digits,
             start,
             devices,
+            ignored,
         } = choice;
         Json {
             profile,
@@ -89,6 +92,7 @@ impl<'p> Json<'p> {
                     digits,
                     start,
                     devices,
+                    ignored,
                 },
             ),
             inside: EngineState::Words,
@@ -143,6 +147,8 @@ impl<'p> Json<'p> {
             PieceEnd::Fault { used, .. } => {
                 spans_move();
                 bad_words_stand_there();
+                open_times_stay();
+                others_are_told();
                 // That the events may end here says which packets and refusals came before.
                 let _ = self.scan.truncation();
                 self.inside = EngineState::BadWord;
@@ -231,7 +237,7 @@ impl<'p> Json<'p> {
         writer: &mut W,
     ) -> Result<(), RunFault>
         ensures puts { (b : Before) → StreamKnows b self.old.stream
-            → OnOk result (PutsText (W.told writer.old).held waiting.old.items (W.told writer.new).held waiting.new.items (object_lines (json_choice self.old).devices (last_word_objects b))) }
+            → OnOk result (PutsText (W.told writer.old).held waiting.old.items (W.told writer.new).held waiting.new.items (object_lines (json_choice self.old).devices (last_word_objects (json_choice self.old) (stream_profile self.old.stream) (stream_time self.old.stream) b))) }
         ensures knows { (b : Before) → StreamKnows b self.old.stream → OnOk result (StreamKnows (record b { counts = after_bad_token b.counts }) self.new.stream) }
         ensures failed { WriterTells (W.told writer.old) (W.told writer.new) result }
     {
@@ -248,6 +254,8 @@ impl<'p> Json<'p> {
     {
         spans_move();
         bad_words_stand_there();
+        open_times_stay();
+        others_are_told();
         match self.scan.take_end(&mut self.stream, waiting, writer)? {
             None => self.stream.put_end(self.scan.truncation(), waiting, writer),
             Some(_) => {
@@ -303,4 +311,8 @@ pub(crate) fn fronts_are_written()
     ended_words_lead_on();
     spelled_has_no_bad_word();
     scans_lead_on();
+    others_are_told();
+    each_list_has_spans();
+    one_list_of_spans();
+    some_packet_is_read();
 }

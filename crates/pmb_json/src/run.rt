@@ -39,11 +39,13 @@ pub fn json<'p, R: Source, W: Sink>(
         digits,
         start,
         devices,
+        ignored,
     } = choice;
     let chosen = Choice {
         digits,
         start,
         devices,
+        ignored,
     };
     accepted_bus(profile);
     let mut engine = Json::new(profile, chosen, bad_words);

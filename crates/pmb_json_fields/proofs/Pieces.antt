@@ -10,7 +10,7 @@ use Rattle.std.proofs.lemmas.List.{append-nil, map-append}
 use Rattle.pmb_json_text.specs.declared.item_order.ItemOrder.{ItemOrder}
 use Rattle.pmb_json_text.specs.declared.item_order.ItemOrder.TheVariants.{First, Later}
 use Rattle.pmb_json_text.specs.Json.{string}
-use Rattle.pmb_json_text.specs.Spelling.{AreBytes, ItemsAreWritable, is_plain}
+use Rattle.pmb_json_text.specs.Spelling.{AreBytes, IsWritable, ItemsAreWritable, is_plain}
 use Rattle.pmb_json_text.specs.Member.{Member, all_plain, array_of, array_text, is_key, items_of, items_text}
 use Rattle.pmb_json_text.specs.Member.{members_text, named, place_after}
 use Rattle.pmb_json_text.proofs.Pieces.{array_in_pieces, items_in_parts, members_in_parts}
@@ -39,6 +39,22 @@ then {x} {ys} {m} {n} {a} {b} {c} first second = record {
       ∙ ap (λ (zs : List ℕ). a ++ zs) (sym (members_in_parts Later (x ∷ []) ys));
   longer = omega (arith, first.longer, second.longer);
   writable = (first.writable.0, second.writable);
+}
+
+after_later : (xs : List Member) → place_after Later xs ≡ Later
+after_later [] = refl
+after_later (x ∷ xs) = refl
+
+-- some members, and others after them
+pub then_some : {xs ys : List Member} {m n : ℕ} {a b c : List ℕ} → Appends xs m a b → Appends ys n b c
+    → Appends (xs ++ ys) (m + n) a c
+then_some {xs} {ys} {m} {n} {a} {b} {c} first second = record {
+  items = second.items ∙ ap (λ (zs : List ℕ). zs ++ members_text Later ys) first.items
+      ∙ append_assoc a (members_text Later xs) (members_text Later ys)
+      ∙ ap (λ (p : ItemOrder). a ++ (members_text Later xs ++ members_text p ys)) (sym (after_later xs))
+      ∙ ap (λ (zs : List ℕ). a ++ zs) (sym (members_in_parts Later xs ys));
+  longer = omega (arith, first.longer, second.longer);
+  writable = all_of_both (λ (x : Member). AreBytes x.key × IsWritable x.value) xs ys first.writable second.writable;
 }
 
 -- members under another name

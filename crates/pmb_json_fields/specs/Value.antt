@@ -23,6 +23,8 @@ use Rattle.pmb_json_text.specs.Json.{number, string}
 use Rattle.pmb_json_text.specs.Member.{Member, named, array_of}
 use Rattle.pmb_json_fields.specs.declared.access.Access.{Access}
 use Rattle.pmb_json_fields.specs.declared.access.Access.TheVariants.{Read, Write}
+use Rattle.pmb_json_fields.specs.declared.basis.Basis.{Basis}
+use Rattle.pmb_json_fields.specs.declared.basis.Basis.TheVariants.{Told, Assumed}
 
 -- ---- numbers
 
@@ -49,16 +51,26 @@ mode_fault_name Vid = codes "vid"
 mode_fault_name Ieee = codes "ieee"
 mode_fault_name NoCoefficients = codes "coefficients"
 
-abbrev pub format_members : ℕ → Result VoutFormat ModeFault → ℕ → List Member
-format_members digits (Ok format) word = value_members digits (vout_coding format) word
-format_members digits (Err fault) word = raw_members (mode_fault_name fault)
+-- what a VOUT_MODE rests on, by whether it is assumed
+abbrev pub basis_of : Bool → Basis
+basis_of true = Assumed
+basis_of false = Told
+
+-- the mark of a value whose VOUT_MODE is assumed
+abbrev pub basis_members : Basis → List Member
+basis_members Told = []
+basis_members Assumed = named (codes "mode") (string (codes "assumed")) ∷ []
+
+abbrev pub format_members : ℕ → Basis → Result VoutFormat ModeFault → ℕ → List Member
+format_members digits basis (Ok format) word = value_members digits (vout_coding format) word ++ basis_members basis
+format_members digits basis (Err fault) word = raw_members (mode_fault_name fault)
 
 -- an output voltage by VOUT_MODE, where that is known and the pages share one
-abbrev pub vout_members : ℕ → KnownMode → Bool → Option Coefficients → ℕ → List Member
-vout_members digits (Known mode) signed coefficients word =
-    format_members digits (format_of mode signed coefficients) word
-vout_members digits Unknown signed coefficients word = raw_members (codes "unknown")
-vout_members digits NoPage signed coefficients word = raw_members (codes "page")
+abbrev pub vout_members : ℕ → KnownMode → Basis → Bool → Option Coefficients → ℕ → List Member
+vout_members digits (Known mode) basis signed coefficients word =
+    format_members digits basis (format_of mode signed coefficients) word
+vout_members digits Unknown basis signed coefficients word = raw_members (codes "unknown")
+vout_members digits NoPage basis signed coefficients word = raw_members (codes "page")
 
 -- ---- status bits
 
@@ -88,14 +100,15 @@ status_members access code (a ∷ b ∷ c ∷ bytes) = []
 
 -- ---- by the command's kind
 
-abbrev pub data_members : ℕ → Access → KnownMode → Option Coefficients → ℕ → Kind → List ℕ → List Member
-data_members digits access mode coefficients code Raw bytes = []
-data_members digits access mode coefficients code Linear11 bytes = of_word (value_members digits linear11) bytes
-data_members digits access mode coefficients code (Linear11Fixed exponent) bytes =
+abbrev pub data_members : ℕ → Access → KnownMode → Basis → Option Coefficients → ℕ → Kind → List ℕ → List Member
+data_members digits access mode basis coefficients code Raw bytes = []
+data_members digits access mode basis coefficients code Linear11 bytes = of_word (value_members digits linear11) bytes
+data_members digits access mode basis coefficients code (Linear11Fixed exponent) bytes =
     of_word (value_members digits (linear11_fixed exponent)) bytes
-data_members digits access mode coefficients code Vout bytes =
-    of_word (vout_members digits mode false coefficients) bytes
-data_members digits access mode coefficients code VoutSigned bytes =
-    of_word (vout_members digits mode true coefficients) bytes
-data_members digits access mode coefficients code (Direct d) bytes = of_word (value_members digits (direct d)) bytes
-data_members digits access mode coefficients code Status bytes = status_members access code bytes
+data_members digits access mode basis coefficients code Vout bytes =
+    of_word (vout_members digits mode basis false coefficients) bytes
+data_members digits access mode basis coefficients code VoutSigned bytes =
+    of_word (vout_members digits mode basis true coefficients) bytes
+data_members digits access mode basis coefficients code (Direct d) bytes =
+    of_word (value_members digits (direct d)) bytes
+data_members digits access mode basis coefficients code Status bytes = status_members access code bytes

@@ -9,6 +9,7 @@ ghost use Rattle.pmb_json_fields.specs.Value.{data_members};
 ghost use Rattle.pmb_json_fields.specs.machine.Written.{Appends};
 
 use crate::access::Access;
+use crate::basis::Basis;
 use crate::bits::append_status;
 use crate::number::append_quantity;
 use crate::voltage::append_voltage;
@@ -24,8 +25,8 @@ pub const DATA_MEMBERS: usize = 1702;
 /// Appends what is said of a command's data to an object that has members already.
 ///
 /// `digits` is how many digits a number has after the point at most. `mode` is the VOUT_MODE by which
-/// an output voltage is read, as far as it is known, and `coefficients` are those of the device for
-/// output voltages in DIRECT. `code` and `kind` are the command's, and `bytes` what is read or
+/// an output voltage is read, as far as it is known, `basis` says whether that is assumed, and
+/// `coefficients` are those of the device for output voltages in DIRECT. `code` and `kind` are the command's, and `bytes` what is read or
 /// written: without the count of a block, and without a packet error code. Nothing is appended where
 /// the kind says nothing of that many bytes.
 pub fn data_members<const N: usize>(
@@ -33,17 +34,28 @@ pub fn data_members<const N: usize>(
     digits: Digits,
     access: Access,
     mode: KnownMode,
+    basis: Basis,
     coefficients: Option<Direct>,
     code: u8,
     kind: Kind,
     bytes: &[u8],
 )
     requires room { length out.old.items + DATA_MEMBERS ≤ N }
-    ensures members { out.new.items ≡ out.old.items ++ members_text Later (data_members digits access mode coefficients code kind bytes.now) }
+    ensures members { out.new.items ≡ out.old.items ++ members_text Later (data_members digits access mode basis coefficients code kind bytes.now) }
     ensures short { length out.new.items ≤ length out.old.items + DATA_MEMBERS }
-    ensures writable { AreWritable (data_members digits access mode coefficients code kind bytes.now) }
+    ensures writable { AreWritable (data_members digits access mode basis coefficients code kind bytes.now) }
 {
-    append_data(out, digits, access, mode, coefficients, code, kind, bytes);
+    append_data(
+        out,
+        digits,
+        access,
+        mode,
+        basis,
+        coefficients,
+        code,
+        kind,
+        bytes,
+    );
 }
 
 /// The same.
@@ -52,20 +64,37 @@ fn append_data<const N: usize>(
     digits: Digits,
     access: Access,
     mode: KnownMode,
+    basis: Basis,
     coefficients: Option<Direct>,
     code: u8,
     kind: Kind,
     bytes: &[u8],
 )
     requires { length out.old.items + 1702 ≤ N }
-    ensures { Appends (data_members digits access mode coefficients code kind bytes.now) 1702 out.old.items out.new.items }
+    ensures { Appends (data_members digits access mode basis coefficients code kind bytes.now) 1702 out.old.items out.new.items }
 {
     match kind {
         Kind::Raw => {}
         // A fixed exponent binds the writer alone: every word has its value.
         Kind::Linear11 | Kind::Linear11Fixed(_) => append_quantity(out, digits, &Linear11, bytes),
-        Kind::Vout => append_voltage(out, digits, mode, Sign::Unsigned, coefficients, bytes),
-        Kind::VoutSigned => append_voltage(out, digits, mode, Sign::Signed, coefficients, bytes),
+        Kind::Vout => append_voltage(
+            out,
+            digits,
+            mode,
+            basis,
+            Sign::Unsigned,
+            coefficients,
+            bytes,
+        ),
+        Kind::VoutSigned => append_voltage(
+            out,
+            digits,
+            mode,
+            basis,
+            Sign::Signed,
+            coefficients,
+            bytes,
+        ),
         Kind::Direct(format) => append_quantity(out, digits, &format, bytes),
         Kind::Status => append_status(out, access, code, bytes),
     }

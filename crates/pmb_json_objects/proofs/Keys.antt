@@ -5,7 +5,7 @@ use Rattle.std.proofs.Common.{◌≡◌, Bool, true, false, if◌then◌else◌,
 use Rattle.std.proofs.Common.{inr}
 use Rattle.std.specs.Str.{bytes_eq}
 use Rattle.std.proofs.lemmas.Bool.{cases_Bool}
-use Rattle.std.proofs.lemmas.List.{map-append}
+use Rattle.std.proofs.lemmas.List.{append-nil, map-append}
 use Rattle.std.proofs.lemmas.Slice.Eq.{bytes_eq-Decides}
 use Rattle.pmb_json_fields.specs.Laws.{keys}
 use Rattle.pmb_json_text.specs.Json.{keys as keys_of}
@@ -27,6 +27,15 @@ followed front back all more first second = record {
   part = subst (λ (ks : List (List ℕ)). IsPart ks (all ++ more)) (sym (map-append (λ (m : Member). m.key) front back))
       (parts_in_a_row (keys front) all (keys back) more first.part second.part);
 }
+
+-- .. which are some of more keys too
+pub within : (before all after : List (List ℕ)) (members : List Member) → HaveKeys members all
+    → HaveKeys members (before ++ all ++ after)
+within before all after members have =
+    subst (λ (ms : List Member). HaveKeys ms (before ++ all ++ after)) (append-nil members)
+    (followed members [] (before ++ all) after
+    (followed [] members before all (record { part = none_is_part before }) have)
+    (record { part = none_is_part after }))
 
 -- ---- a test of keys that are known
 

@@ -1,4 +1,5 @@
 pub mod All
+pub mod Below
 pub mod Checked
 pub mod Counting
 pub mod DataMembers
@@ -9,5 +10,6 @@ pub mod LastByte
 pub mod Lists
 pub mod Parts
 pub mod Quantities
+pub mod RefusedMembers
 pub mod Shared
 pub mod Texts

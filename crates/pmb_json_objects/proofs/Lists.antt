@@ -4,12 +4,14 @@
 -- after a comma, that of the second.
 use Rattle.std.proofs.Common.{◌≡◌, ℕ, List, [], ◌∷◌, ◌++◌, codes, sym, ap, refl, ◌∙◌, append_assoc, map}
 use Rattle.std.proofs.lemmas.List.{append-nil}
+use Rattle.pmb_command.specs.Parts.{DeviceParts}
 use Rattle.pmb_json_text.specs.declared.item_order.ItemOrder.{ItemOrder}
 use Rattle.pmb_json_text.specs.declared.item_order.ItemOrder.TheVariants.{First, Later}
 use Rattle.pmb_json_text.specs.Member.{Member, members_text, object_line}
 use Rattle.pmb_json_text.specs.Json.{Json, string}
 use Rattle.pmb_json_text.specs.Member.{array_of, array_text, items_text, named}
 use Rattle.pmb_json_text.proofs.Pieces.{array_in_pieces, items_in_parts, line_in_pieces, members_in_parts}
+use Rattle.pmb_json_objects.specs.Members.{device_members}
 
 -- no members are no text
 pub none_later : members_text Later [] ≡ []
@@ -66,6 +68,13 @@ ended old members {middle} {new} first second =
     second ∙ ap (λ (t : List ℕ). t ++ codes "}\n") first
     ∙ append_assoc old (codes "{" ++ members_text First members) (codes "}\n")
     ∙ ap (λ (t : List ℕ). old ++ t) (sym (line_in_pieces members))
+
+-- a device of the profile that is seen
+pub of_seen_device : (old : List ℕ) (addr : ℕ) {profile seen : List DeviceParts} {new : List ℕ} → profile ≡ seen
+    → new ≡ old ++ members_text Later (device_members profile addr)
+    → new ≡ old ++ members_text Later (device_members seen addr)
+of_seen_device old addr same written =
+    written ∙ ap (λ (devices : List DeviceParts). old ++ members_text Later (device_members devices addr)) same
 
 -- ---- arrays
 

@@ -1,34 +1,41 @@
--- The members that objects share: where an object begins, the part, the device, the command and
--- PAGE. They can be written, and which keys they have. For the law `objects_are_json`, by Each.
+-- The members that objects share: where an object begins and when, the part, the device, the command
+-- and PAGE. They can be written, and which keys they have. For the law `objects_are_json`, by Each.
 -- PAGE and the command's name are bytes, by what is seen of the device.
-use Rattle.std.proofs.Common.{◌≡◌, ℕ, ◌<◌, Bool, true, false, nat_eq, nat_le, Option, Some, None, List, [], ◌∷◌, codes}
-use Rattle.std.proofs.Common.{refl, arith}
-use Rattle.std.specs.Prelude.{IfSome}
+use Rattle.std.proofs.Common.{◌≡◌, ℕ, ◌<◌, ◌≤◌, Bool, true, false, nat_eq, nat_le, Option, Some, None, List, [], ◌∷◌}
+use Rattle.std.proofs.Common.{◌++◌, codes, refl, arith}
+use Rattle.std.specs.List.{AllByRecursion}
+use Rattle.std.specs.Prelude.{IfSome, option_and_then}
 use Rattle.pmb_command.specs.Bus.{IsBus, IsDevice}
 use Rattle.pmb_command.specs.Entry.{EntryParts}
+use Rattle.pmb_command.specs.Names.{IsDeviceName}
 use Rattle.pmb_command.specs.Parts.{DeviceParts, command_with, device_with}
 use Rattle.pmb_note.specs.Paging.{all_pages}
 use Rattle.pmb_json_text.specs.Json.{string}
 use Rattle.pmb_json_text.specs.Member.{count, named}
-use Rattle.pmb_json_text.specs.Spelling.{IsWritable}
+use Rattle.pmb_json_text.specs.Spelling.{AreBytes, IsWritable}
 use Rattle.pmb_json_text.specs.Json.{HasDistinctKeys}
-use Rattle.pmb_places.specs.declared.places.Place.{Place}
-use Rattle.pmb_json_objects.specs.Laws.{IsCount, IsPlace, IsSeen}
-use Rattle.pmb_json_objects.specs.Members.{code_member, command_members, device_member, entry_members, head_members}
-use Rattle.pmb_json_objects.specs.Members.{page_member, page_value, part_members, sent_command}
+use Rattle.pmb_json_objects.specs.Head.{Head}
+use Rattle.pmb_json_objects.specs.Laws.{IsCount, IsHead, IsSeen, IsTime}
+use Rattle.pmb_json_objects.specs.Members.{code_member, command_members, device_member, device_members, entry_members}
+use Rattle.pmb_json_objects.specs.Members.{head_members, kind_member, name_at as name_of_device, name_members}
+use Rattle.pmb_json_objects.specs.Members.{page_member, page_value, part_members, sent_command, time_members}
+use Rattle.pmb_json_objects.specs.Members.{where_members}
 use Rattle.pmb_json_objects.specs.Seen.{SeenData, entry_at, entry_of, page_at}
 use Rattle.pmb_json_objects.proofs.Fine.{AreFine, DigitsAreNumbers, HasNameOfBytes, IsFine, are_bytes, command_name}
-use Rattle.pmb_json_objects.proofs.Fine.{fine_count, fine_digits, fine_null, fine_text, fine_word, of_either, of_found}
-use Rattle.pmb_json_objects.proofs.Fine.{tested_bytes}
+use Rattle.pmb_json_objects.proofs.Fine.{fine_count, fine_digits, fine_null, fine_of_both, fine_text, fine_word}
+use Rattle.pmb_json_objects.proofs.Fine.{of_either, of_found, tested_bytes}
 use Rattle.pmb_json_objects.proofs.Keys.{HaveKeys, keys_of_either, tested, followed}
 
 -- ---- the keys of each, in the order of all
 
 abbrev pub head_keys : List (List ℕ)
-head_keys = codes "at" ∷ codes "line" ∷ codes "column" ∷ codes "kind" ∷ []
+head_keys = codes "at" ∷ codes "line" ∷ codes "column" ∷ codes "time" ∷ codes "kind" ∷ []
 
 abbrev pub part_keys : List (List ℕ)
 part_keys = codes "part" ∷ codes "parts" ∷ []
+
+abbrev pub name_keys : List (List ℕ)
+name_keys = codes "device" ∷ codes "name" ∷ []
 
 abbrev pub command_keys : List (List ℕ)
 command_keys = codes "code" ∷ codes "command" ∷ codes "page" ∷ []
@@ -44,18 +51,44 @@ pub name_at : (seen : SeenData) (addr code : ℕ) → IsBus seen.profile → IfS
 name_at seen addr code bus = entry_is_named code (device_with addr seen.profile)
     (of_found IsDevice (λ d. nat_eq d.address addr) seen.profile bus.devices)
 
+-- ---- a device
+
+printed_bytes : (text : List ℕ) → AllByRecursion (λ b. (0x20 ≤ b) × (b ≤ 0x7e)) text → AreBytes text
+printed_bytes [] printable = tt
+printed_bytes (byte ∷ text) printable = (omega (arith, printable.0.1), printed_bytes text printable.1)
+
+fine_name : (name : Option (List ℕ)) → IfSome name IsDeviceName → AreFine (name_members name)
+fine_name None is = tt
+fine_name (Some name) is = (fine_text (codes "name") name refl (printed_bytes name is.printable), tt)
+
+fine_name_of : (o : Option DeviceParts) → IfSome o IsDevice
+    → AreFine (name_members (option_and_then (λ device. device.name) o))
+fine_name_of None is = tt
+fine_name_of (Some device) is = fine_name device.name is.name
+
+pub fine_device : (profile : List DeviceParts) (addr : ℕ) → IsBus profile → AreFine (device_members profile addr)
+fine_device profile addr bus = (
+  fine_digits (codes "device") (addr ∷ []) refl,
+  fine_name_of (device_with addr profile)
+      (of_found IsDevice (λ d. nat_eq d.address addr) profile bus.devices),
+)
+
 module _ (numbers : DigitsAreNumbers) where
   -- ---- where an object begins
 
-  pub fine_head : (at : ℕ) (place : Place) (kind : List ℕ) → IsCount at → IsPlace place → are_bytes kind ≡ true
-      → AreFine (head_members at place kind)
-  fine_head at place kind few is plain = (
-    fine_count numbers (codes "at") at refl few,
+  fine_time : (time : Option (List ℕ)) → IsTime time → AreFine (time_members time)
+  fine_time None is = tt
+  fine_time (Some time) is = (fine_text (codes "time") time refl is, tt)
+
+  pub fine_head : (head : Head) (kind : List ℕ) → IsHead head → are_bytes kind ≡ true → AreFine (head_members head kind)
+  fine_head head kind is plain = (
+    fine_count numbers (codes "at") head.at refl is.at,
     (
-      fine_count numbers (codes "line") place.line refl is.line,
+      fine_count numbers (codes "line") head.place.line refl is.place.line,
       (
-        fine_count numbers (codes "column") place.column refl is.column,
-        (fine_word (codes "kind") kind refl plain, tt),
+        fine_count numbers (codes "column") head.place.column refl is.place.column,
+        fine_of_both (time_members head.time) (kind_member kind) (fine_time head.time is.time)
+            (fine_word (codes "kind") kind refl plain, tt),
       ),
     ),
   )
@@ -65,9 +98,6 @@ module _ (numbers : DigitsAreNumbers) where
       of_either AreFine (nat_le parts 1) [] (named (codes "part") (count part) ∷ named (codes "parts") (count parts)
       ∷ []) tt
       (fine_count numbers (codes "part") part refl few, (fine_count numbers (codes "parts") parts refl many, tt))
-
-  pub fine_device : (addr : ℕ) → AreFine (device_member addr)
-  fine_device addr = (fine_digits (codes "device") (addr ∷ []) refl, tt)
 
   -- ---- a command
 
@@ -105,6 +135,25 @@ module _ (numbers : DigitsAreNumbers) where
   fine_sent_command seen addr (code ∷ bytes) is = fine_command seen addr code is
 
 -- ---- keys
+
+keys_of_time : (time : Option (List ℕ)) → HaveKeys (time_members time) (codes "time" ∷ [])
+keys_of_time None = tested [] (codes "time" ∷ []) refl
+keys_of_time (Some time) = tested _ (codes "time" ∷ []) refl
+
+pub keys_of_head : (head : Head) (kind : List ℕ) → HaveKeys (head_members head kind) head_keys
+keys_of_head head kind =
+    followed (where_members head.at head.place) (time_members head.time ++ kind_member kind)
+    (codes "at" ∷ codes "line" ∷ codes "column" ∷ []) (codes "time" ∷ codes "kind" ∷ []) (tested _ _ refl)
+    (followed (time_members head.time) (kind_member kind) (codes "time" ∷ []) (codes "kind" ∷ [])
+    (keys_of_time head.time) (tested _ _ refl))
+
+keys_of_name : (name : Option (List ℕ)) → HaveKeys (name_members name) (codes "name" ∷ [])
+keys_of_name None = tested [] (codes "name" ∷ []) refl
+keys_of_name (Some name) = tested _ (codes "name" ∷ []) refl
+
+pub keys_of_device : (profile : List DeviceParts) (addr : ℕ) → HaveKeys (device_members profile addr) name_keys
+keys_of_device profile addr = followed (device_member addr) (name_members (name_of_device profile addr))
+    (codes "device" ∷ []) (codes "name" ∷ []) (tested _ _ refl) (keys_of_name (name_of_device profile addr))
 
 pub keys_of_part : (part parts : ℕ) → HaveKeys (part_members part parts) part_keys
 keys_of_part part parts = keys_of_either (nat_le parts 1) []

@@ -1,5 +1,6 @@
 -- Objects as JSON, and what holds by nature of that which they are made of.
-use Rattle.std.specs.Prelude.{ℕ, ◌+◌, ◌^◌, ◌<◌, ◌≤◌, ⊤, IfSome, List, [], ◌∷◌, codes, length, unsigned_abs}
+use Rattle.std.specs.Prelude.{ℕ, ◌+◌, ◌^◌, ◌<◌, ◌≤◌, ⊤, IfSome, Option, List, [], ◌∷◌, codes, length}
+use Rattle.std.specs.Prelude.{unsigned_abs}
 use Rattle.std.specs.List.{AllByRecursion}
 use Rattle.pmb_coefficients.specs.Coefficients.{Coefficients, MakeFormat}
 use Rattle.pmb_command.specs.declared.entry.Kind.{Kind}
@@ -12,6 +13,7 @@ use Rattle.pmb_json_text.specs.Member.{AreWritable, Member, object_of}
 use Rattle.pmb_json_text.specs.Spelling.{AreBytes}
 use Rattle.pmb_places.specs.declared.places.Place.{Place}
 use Rattle.pmb_transaction.specs.Transaction.{PartData, TransactionData, Write, Read, Call, Refused, Alert, NoAlert}
+use Rattle.pmb_json_objects.specs.Head.{Head}
 use Rattle.pmb_json_objects.specs.Seen.{SeenData, entry_at, page_at}
 
 -- ---- what is promised
@@ -25,12 +27,12 @@ pub record IsJsonObject (members : List Member) : Type 0 where
 -- the keys of all objects; those of each are some of these, in this order
 abbrev pub object_keys : List (List ℕ)
 object_keys =
-    codes "at" ∷ codes "line" ∷ codes "column" ∷ codes "kind" ∷ codes "part" ∷ codes "parts" ∷ codes "reason"
-    ∷ codes "expected" ∷ codes "got" ∷ codes "device"
+    codes "at" ∷ codes "line" ∷ codes "column" ∷ codes "time" ∷ codes "kind" ∷ codes "part" ∷ codes "parts"
+    ∷ codes "reason" ∷ codes "expected" ∷ codes "got" ∷ codes "device" ∷ codes "name"
     ∷ codes "writes" ∷ codes "reads" ∷ codes "calls" ∷ codes "packets" ∷ codes "refused" ∷ codes "refusals"
-    ∷ codes "bad_tokens" ∷ codes "code" ∷ codes "command" ∷ codes "page"
+    ∷ codes "bad_tokens" ∷ codes "others" ∷ codes "code" ∷ codes "command" ∷ codes "page"
     ∷ codes "bytes" ∷ codes "byte" ∷ codes "sent" ∷ codes "reply" ∷ codes "pec" ∷ codes "right_pec" ∷ codes "word"
-    ∷ codes "value" ∷ codes "number" ∷ codes "raw" ∷ codes "bits" ∷ codes "clears" ∷ []
+    ∷ codes "value" ∷ codes "number" ∷ codes "mode" ∷ codes "raw" ∷ codes "bits" ∷ codes "clears" ∷ []
 
 -- ---- numbers of 64 bits
 
@@ -40,6 +42,15 @@ IsCount n = n < 2 ^ 64
 pub record IsPlace (place : Place) : Type 0 where
   pub line : IsCount place.line
   pub column : IsCount place.column
+
+-- a time: bytes
+abbrev pub IsTime : Option (List ℕ) → Type 0
+IsTime time = IfSome time AreBytes
+
+pub record IsHead (head : Head) : Type 0 where
+  pub at : IsCount head.at
+  pub place : IsPlace head.place
+  pub time : IsTime head.time
 
 -- ---- what is seen
 
@@ -86,5 +97,5 @@ IsTransaction seen (Write parts) = AreParts seen parts × IsCount (length parts)
 IsTransaction seen (Read t) = IsData seen t.addr t.code t.reply
 IsTransaction seen (Call t) = IsSeen seen t.addr
 IsTransaction seen (Refused t) = AreParts seen t.parts × IsCount (length t.parts + 1) × IsSeen seen t.addr
-IsTransaction seen (Alert t) = ⊤
+IsTransaction seen (Alert t) = IsBus seen.profile
 IsTransaction seen NoAlert = ⊤

@@ -1,4 +1,5 @@
 pub mod Names
+pub mod Head
 pub mod Seen
 pub mod Sees
 pub mod Members

@@ -1,11 +1,13 @@
 -- The members that objects share.
 use Rattle.std.specs.Prelude.{ℕ, Bool, true, false, if◌then◌else◌, nat_eq, nat_le, Option, Some, None, List, [], ◌∷◌}
-use Rattle.std.specs.Prelude.{◌++◌, codes}
+use Rattle.std.specs.Prelude.{◌++◌, codes, option_and_then}
 use Rattle.pmb_command.specs.Entry.{EntryParts}
+use Rattle.pmb_command.specs.Parts.{DeviceParts, device_with}
 use Rattle.pmb_note.specs.Paging.{all_pages}
 use Rattle.pmb_json_text.specs.Json.{Json, null, string}
 use Rattle.pmb_json_text.specs.Member.{Member, named, count, digits}
 use Rattle.pmb_places.specs.declared.places.Place.{Place}
+use Rattle.pmb_json_objects.specs.Head.{Head}
 use Rattle.pmb_json_objects.specs.Seen.{SeenData, entry_at, page_at}
 
 -- where the object begins: the number of its first event, and the place of that one's word
@@ -16,12 +18,30 @@ where_members at place = named (codes "at") (count at) ∷ named (codes "line") 
 abbrev pub kind_member : List ℕ → List Member
 kind_member kind = named (codes "kind") (string kind) ∷ []
 
--- where it begins, and its kind
-abbrev pub head_members : ℕ → Place → List ℕ → List Member
-head_members at place kind = where_members at place ++ kind_member kind
+-- the time of its packet, where one is known
+abbrev pub time_members : Option (List ℕ) → List Member
+time_members None = []
+time_members (Some time) = named (codes "time") (string time) ∷ []
+
+-- where it begins, when, and its kind
+abbrev pub head_members : Head → List ℕ → List Member
+head_members head kind = where_members head.at head.place ++ (time_members head.time ++ kind_member kind)
 
 abbrev pub device_member : ℕ → List Member
 device_member addr = named (codes "device") (digits (addr ∷ [])) ∷ []
+
+-- the name that the profile gives the device with an address
+abbrev pub name_at : List DeviceParts → ℕ → Option (List ℕ)
+name_at profile addr = option_and_then (λ device. device.name) (device_with addr profile)
+
+-- a name, where there is one
+abbrev pub name_members : Option (List ℕ) → List Member
+name_members None = []
+name_members (Some name) = named (codes "name") (string name) ∷ []
+
+-- a device of a profile, and its name
+abbrev pub device_members : List DeviceParts → ℕ → List Member
+device_members profile addr = device_member addr ++ name_members (name_at profile addr)
 
 abbrev pub code_member : ℕ → List Member
 code_member code = named (codes "code") (digits (code ∷ [])) ∷ []

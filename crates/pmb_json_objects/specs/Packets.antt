@@ -14,7 +14,6 @@ use Rattle.pmb_command.specs.Wire.{wire_length}
 use Rattle.pmb_json_fields.specs.declared.access.Access.{Access}
 use Rattle.pmb_json_fields.specs.declared.access.Access.TheVariants as access
 use Rattle.pmb_json_fields.specs.Value.{data_members}
-use Rattle.pmb_io.specs.Count.{capped}
 use Rattle.pmb_json_text.specs.Json.{null, boolean, string}
 use Rattle.pmb_json_text.specs.Member.{Member, named, digits}
 use Rattle.pmb_places.specs.declared.places.Place.{Place}
@@ -22,9 +21,11 @@ use Rattle.pmb_partial_packet.specs.PartialPacket.{but_last}
 use Rattle.pmb_transaction.specs.Body.{forms}
 use Rattle.pmb_transaction.specs.Transaction.{PartData, ReadData, CallData, RefusedData, AlertData, TransactionData}
 use Rattle.pmb_transaction.specs.Transaction.{Write, Read, Call, Refused, Alert, NoAlert}
-use Rattle.pmb_json_objects.specs.Members.{command_members, device_member, head_members, part_members, sent_command}
+use Rattle.pmb_json_objects.specs.Head.{Head, head_at}
+use Rattle.pmb_json_objects.specs.Members.{command_members, device_member, device_members, head_members, part_members}
+use Rattle.pmb_json_objects.specs.Members.{sent_command}
 use Rattle.pmb_json_objects.specs.Object.{Object, of_device, of_none}
-use Rattle.pmb_json_objects.specs.Seen.{SeenData, entry_of, mode_at}
+use Rattle.pmb_json_objects.specs.Seen.{SeenData, basis_at, entry_of, mode_at}
 
 -- the number of each START among events, before the first of which n came
 abbrev pub starts : ℕ → List Event → List ℕ
@@ -41,7 +42,7 @@ starts n (Stop ∷ events) = starts (n + 1) events
 abbrev pub data_of_entry : SeenData → Access → ℕ → ℕ → DeviceParts → Option EntryParts → List ℕ → List Member
 data_of_entry seen access addr code device None bytes = []
 data_of_entry seen access addr code device (Some entry) bytes =
-    data_members seen.digits access (mode_at seen addr) device.vout_direct code entry.kind bytes
+    data_members seen.digits access (mode_at seen addr) (basis_at seen addr) device.vout_direct code entry.kind bytes
 
 abbrev pub data_of : SeenData → Access → ℕ → ℕ → Option DeviceParts → List ℕ → List Member
 data_of seen access addr code None bytes = []
@@ -100,65 +101,69 @@ abbrev pub refused_check : ℕ → Option DeviceParts → List ℕ → Bool → 
 refused_check addr device sent true = []
 refused_check addr device sent false = checked_members addr device (but_last sent) (last_byte sent)
 
--- ---- objects, each by the number of its first event and the place of that one's word
+-- ---- objects
 
-abbrev pub alert_object : ℕ → Place → AlertData → Object
-alert_object at place t = of_device (t.byte / 2) (
-    head_members at place (codes "alert") ++ device_member (t.byte / 2) ++ named (codes "byte") (digits (t.byte ∷ []))
-    ∷ named (codes "pec") (boolean t.pec) ∷ [])
+abbrev pub alert_object : List DeviceParts → Head → AlertData → Object
+alert_object profile head t = of_device (t.byte / 2) (
+    head_members head (codes "alert") ++ device_members profile (t.byte / 2)
+    ++ named (codes "byte") (digits (t.byte ∷ [])) ∷ named (codes "pec") (boolean t.pec) ∷ [])
 
-abbrev pub no_alert_object : ℕ → Place → Object
-no_alert_object at place = of_none (head_members at place (codes "alert") ++ named (codes "device") null ∷ [])
+abbrev pub no_alert_object : Head → Object
+no_alert_object head = of_none (head_members head (codes "alert") ++ named (codes "device") null ∷ [])
+
+-- a packet to an address that speaks no PMBus
+abbrev pub other_object : Head → ℕ → Object
+other_object head addr = of_device addr (head_members head (codes "other") ++ device_member addr)
 
 module _ (seen : SeenData) where
-  abbrev pub write_object : ℕ → Place → ℕ → ℕ → PartData → Object
-  write_object at place part parts p = of_device p.addr (
-      head_members at place (codes "write") ++ part_members part parts ++ device_member p.addr
+  abbrev pub write_object : Head → ℕ → ℕ → PartData → Object
+  write_object head part parts p = of_device p.addr (
+      head_members head (codes "write") ++ part_members part parts ++ device_members seen.profile p.addr
       ++ command_members seen p.addr p.code
       ++ named (codes "bytes") (digits p.bytes) ∷ named (codes "pec") (boolean p.pec)
       ∷ said_of seen access.Write p.addr p.code p.bytes)
 
-  abbrev pub read_object : ℕ → Place → ReadData → Object
-  read_object at place t = of_device t.addr (
-      head_members at place (codes "read") ++ device_member t.addr ++ command_members seen t.addr t.code
+  abbrev pub read_object : Head → ReadData → Object
+  read_object head t = of_device t.addr (
+      head_members head (codes "read") ++ device_members seen.profile t.addr ++ command_members seen t.addr t.code
       ++ named (codes "bytes") (digits t.reply) ∷ named (codes "pec") (boolean t.pec)
       ∷ said_of seen access.Read t.addr t.code t.reply)
 
-  abbrev pub call_object : ℕ → Place → CallData → Object
-  call_object at place t = of_device t.addr (
-      head_members at place (codes "call") ++ device_member t.addr ++ command_members seen t.addr t.code
+  abbrev pub call_object : Head → CallData → Object
+  call_object head t = of_device t.addr (
+      head_members head (codes "call") ++ device_members seen.profile t.addr ++ command_members seen t.addr t.code
       ++ named (codes "sent") (digits t.bytes) ∷ named (codes "reply") (digits t.reply)
       ∷ named (codes "pec") (boolean t.pec) ∷ [])
 
   -- the leg that was refused, as the last of so many parts
-  abbrev pub refused_object : ℕ → Place → ℕ → ℕ → List ℕ → Bool → Object
-  refused_object at place parts addr sent at_read = of_device addr (
-      head_members at place (codes "refused") ++ part_members parts parts ++ device_member addr
+  abbrev pub refused_object : Head → ℕ → ℕ → List ℕ → Bool → Object
+  refused_object head parts addr sent at_read = of_device addr (
+      head_members head (codes "refused") ++ part_members parts parts ++ device_members seen.profile addr
       ++ named (codes "refused") (string (refused_name sent at_read)) ∷ sent_command seen addr sent
       ++ named (codes "sent") (digits sent) ∷ refused_check addr (device_with addr seen.profile) sent at_read)
 
-  -- ---- the objects of a packet
+  -- ---- the objects of a packet, by the place of each event and the packet's time
 
-  module _ (place : ℕ → Place) where
+  module _ (place : ℕ → Place) (time : Option (List ℕ)) where
     -- parts, from the one with this number on, each with the number of its START
     abbrev pub write_objects : ℕ → ℕ → List ℕ → List PartData → List Object
     write_objects part parts ats [] = []
     write_objects part parts [] (p ∷ more) = []
-    write_objects part parts (at ∷ ats) (p ∷ more) = write_object (capped at) (place at) part parts p
+    write_objects part parts (at ∷ ats) (p ∷ more) = write_object (head_at place time at) part parts p
         ∷ write_objects (part + 1) parts ats more
 
     -- the parts before a refused leg, and that leg as the last one
     abbrev pub refused_objects : List ℕ → RefusedData → List Object
     refused_objects ats t =
         write_objects 1 (length t.parts + 1) ats t.parts
-        ++ map (λ at. refused_object (capped at) (place at) (length t.parts + 1) t.addr t.sent t.at_read)
+        ++ map (λ at. refused_object (head_at place time at) (length t.parts + 1) t.addr t.sent t.at_read)
         (take 1 (drop (length t.parts) ats))
 
     -- before the packet n events came
     abbrev pub packet_objects : ℕ → List Event → TransactionData → List Object
     packet_objects n events (Write parts) = write_objects 1 (length parts) (starts n events) parts
-    packet_objects n events (Read t) = read_object (capped n) (place n) t ∷ []
-    packet_objects n events (Call t) = call_object (capped n) (place n) t ∷ []
+    packet_objects n events (Read t) = read_object (head_at place time n) t ∷ []
+    packet_objects n events (Call t) = call_object (head_at place time n) t ∷ []
     packet_objects n events (Refused t) = refused_objects (starts n events) t
-    packet_objects n events (Alert t) = alert_object (capped n) (place n) t ∷ []
-    packet_objects n events NoAlert = no_alert_object (capped n) (place n) ∷ []
+    packet_objects n events (Alert t) = alert_object seen.profile (head_at place time n) t ∷ []
+    packet_objects n events NoAlert = no_alert_object (head_at place time n) ∷ []

@@ -2,20 +2,22 @@
 use Rattle.std.specs.Prelude.{ℕ, Option, Some, None, List, [], ◌∷◌, ◌++◌, codes, map}
 use Rattle.pmb_bus.specs.declared.event.Event.{Event}
 use Rattle.pmb_bus.specs.declared.kinds.Kinds.{Kinds}
+use Rattle.pmb_command.specs.Parts.{DeviceParts}
 use Rattle.pmb_json_text.specs.Json.{string}
 use Rattle.pmb_json_text.specs.Member.{Member, named, array_of, digits}
-use Rattle.pmb_places.specs.declared.places.Place.{Place}
 use Rattle.pmb_partial_packet.specs.PartialPacket.{reply, right_pec, said_device, sent, written_to}
 use Rattle.pmb_transaction.specs.declared.reason.Reason.{Reason}
 use Rattle.pmb_transaction.specs.Names.{kind_names, reason_name}
-use Rattle.pmb_json_objects.specs.Members.{device_member, head_members, sent_command}
+use Rattle.pmb_json_objects.specs.Members.{device_members, head_members, sent_command}
+use Rattle.pmb_json_objects.specs.Head.{Head}
 use Rattle.pmb_json_objects.specs.Names.{got_value}
 use Rattle.pmb_json_objects.specs.Object.{Object}
 use Rattle.pmb_json_objects.specs.Seen.{SeenData}
 
-abbrev pub said_device_member : Option ℕ → List Member
-said_device_member None = []
-said_device_member (Some addr) = device_member addr
+-- the device that the packet says, if it says one
+abbrev pub said_device_members : List DeviceParts → Option ℕ → List Member
+said_device_members profile None = []
+said_device_members profile (Some addr) = device_members profile addr
 
 -- of the last leg that is written: code, command and page, and all bytes
 abbrev pub written_members : SeenData → Option ℕ → Option (List ℕ) → List Member
@@ -38,14 +40,14 @@ right_pec_members None = []
 right_pec_members (Some right) = named (codes "right_pec") (digits (right ∷ [])) ∷ []
 
 -- Of a refusal with these events of the packet before it: the refused event, or none where they end.
-abbrev pub refusal_object : SeenData → ℕ → Place → List Event → Option Event → Reason → Kinds → Object
-refusal_object seen at place front event reason expected = record {
+abbrev pub refusal_object : SeenData → Head → List Event → Option Event → Reason → Kinds → Object
+refusal_object seen head front event reason expected = record {
   device = said_device front;
   members =
-      head_members at place (codes "refusal")
+      head_members head (codes "refusal")
       ++ named (codes "reason") (string (reason_name reason))
       ∷ named (codes "expected") (array_of (map string (kind_names expected)))
-      ∷ named (codes "got") (got_value event) ∷ said_device_member (said_device front)
+      ∷ named (codes "got") (got_value event) ∷ said_device_members seen.profile (said_device front)
       ++ written_members seen (written_to front) (sent front)
       ++ reply_members (reply front) ++ right_pec_members (due_pec reason front event);
 }

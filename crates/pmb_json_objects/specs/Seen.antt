@@ -4,7 +4,9 @@ use Rattle.pmb_command.specs.Entry.{EntryParts}
 use Rattle.pmb_command.specs.Parts.{DeviceParts, command_with, device_with}
 use Rattle.pmb_unknown_start.specs.declared.mode.KnownMode.{KnownMode}
 use Rattle.pmb_unknown_start.specs.declared.start.Start.{Start}
-use Rattle.pmb_unknown_start.specs.Known.{mode, page}
+use Rattle.pmb_unknown_start.specs.Known.{is_assumed, mode, page}
+use Rattle.pmb_json_fields.specs.declared.basis.Basis.{Basis}
+use Rattle.pmb_json_fields.specs.Value.{basis_of}
 use Rattle.pmb_transaction.specs.Transaction.{TransactionData}
 
 -- The digits after a point, what is known of PAGE and VOUT_MODE at first, the devices, and the
@@ -30,3 +32,7 @@ page_at seen addr = page seen.start seen.profile seen.before addr
 
 abbrev pub mode_at : SeenData → ℕ → KnownMode
 mode_at seen addr = mode seen.start seen.profile seen.before addr
+
+-- what that VOUT_MODE rests on
+abbrev pub basis_at : SeenData → ℕ → Basis
+basis_at seen addr = basis_of (is_assumed seen.profile seen.before addr)

@@ -5,24 +5,25 @@
 ghost use Rattle.std.specs.Prelude.{◌≡◌, ◌+◌, ◌≤◌, ◌++◌, length, take};
 ghost use Rattle.pmb_json_text.specs.Member.{object_line};
 ghost use Rattle.pmb_json_objects.specs.BadToken.{bad_token_object};
+ghost use Rattle.pmb_json_objects.specs.Head.{head_of};
 
 use crate::OBJECT;
+use crate::head::Head;
 use crate::members::begin_object;
 use arrayvec::ArrayVec;
 use pmb_json_text::{ItemOrder, end, text_member};
-use pmb_places::Place;
 
 /// How many bytes of a word are told.
 pub const WORD: usize = 32;
 
-/// Appends the line of a word that is no token: how many events came before it, where it stands, and
-/// at most its first 32 bytes.
-pub fn bad_token_line<const N: usize>(out: &mut ArrayVec<u8, N>, at: u64, place: Place, word: &[u8])
+/// Appends the line of a word that is no token: how many events came before it, where it stands, the
+/// time of the packet in which it stands, and at most its first 32 bytes.
+pub fn bad_token_line<const N: usize>(out: &mut ArrayVec<u8, N>, head: Head<'_>, word: &[u8])
     requires room { length out.old.items + OBJECT ≤ N }
-    ensures line { out.new.items ≡ out.old.items ++ object_line (bad_token_object at place word.now).members }
+    ensures line { out.new.items ≡ out.old.items ++ object_line (bad_token_object (head_of head.entry) word.now).members }
     ensures short { length out.new.items ≤ length out.old.items + OBJECT }
 {
-    begin_object(out, at, place, b"bad_token");
+    begin_object(out, head, b"bad_token");
     text_member(out, ItemOrder::Later, "word", told(word));
     end(out);
 }

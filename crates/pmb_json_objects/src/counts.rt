@@ -4,7 +4,7 @@
 
 ghost use Rattle.std.specs.Prelude.{◌≡◌, ◌<◌, ℕ, Some, map, option_map};
 ghost use Rattle.pmb_transaction.specs.Transaction.{part_data, transaction_data};
-ghost use Rattle.pmb_json_objects.specs.Counts.{CountsData, DeviceData, after_bad_token, after_packet, after_refusal, counted, has_come, none_counted, nothing_counted, parts_to, sum_of, writes_alone};
+ghost use Rattle.pmb_json_objects.specs.Counts.{CountsData, DeviceData, after_bad_token, after_other, after_packet, after_refusal, counted, has_come, none_counted, nothing_counted, parts_to, sum_of, writes_alone};
 ghost use Rattle.pmb_json_objects.specs.machine.Counting.{AreCounts, CountsAre, device_counts, one_at, one_of};
 
 use pmb_transaction::{Part, Transaction};
@@ -23,16 +23,19 @@ pub struct DeviceCounts {
     pub refused: u64,
     /// Refusals of events in packets to it.
     pub refusals: u64,
+    /// Packets to its address, where that speaks no PMBus.
+    pub others: u64,
 }
 
-/// How often each device came, and how many packets, refusals and words that are no token there
-/// were. Each number stays at the greatest `u64`.
+/// How often each device came, and how many packets, refusals, words that are no token and packets to
+/// addresses that speak no PMBus there were. Each number stays at the greatest `u64`.
 #[derive(Drop)]
 pub struct Counts {
     devices: [DeviceCounts; 128],
     packets: u64,
     refusals: u64,
     bad_tokens: u64,
+    others: u64,
 }
 
 impl DeviceCounts {
@@ -46,6 +49,7 @@ impl DeviceCounts {
             calls: 0,
             refused: 0,
             refusals: 0,
+            others: 0,
         }
     }
 
@@ -53,11 +57,16 @@ impl DeviceCounts {
     pub fn has_come(&self) -> bool
         ensures { (known : DeviceData) → self.now ≡ device_counts known → result ≡ has_come known }
     {
-        self.writes > 0 || self.reads > 0 || self.calls > 0 || self.refused > 0 || self.refusals > 0
+        self.writes > 0
+            || self.reads > 0
+            || self.calls > 0
+            || self.refused > 0
+            || self.refusals > 0
+            || self.others > 0
     }
 }
 
-/// What a packet or a refusal is to a device.
+/// What a packet, a refusal or an other is to a device.
 #[derive(Clone, Copy)]
 enum What {
     Write,
@@ -65,6 +74,7 @@ enum What {
     Call,
     Refused,
     Refusal,
+    Other,
 }
 
 impl What {
@@ -78,6 +88,7 @@ impl What {
             What::Call => counts.calls = counts.calls.saturating_add(1),
             What::Refused => counts.refused = counts.refused.saturating_add(1),
             What::Refusal => counts.refusals = counts.refusals.saturating_add(1),
+            What::Other => counts.others = counts.others.saturating_add(1),
         }
     }
 }
@@ -92,6 +103,7 @@ impl Counts {
             packets: 0,
             refusals: 0,
             bad_tokens: 0,
+            others: 0,
         }
     }
 
@@ -120,6 +132,14 @@ impl Counts {
         self.bad_tokens = self.bad_tokens.saturating_add(1);
     }
 
+    /// Counts a packet to an address that speaks no PMBus: neither as a packet nor as a refusal.
+    pub fn count_other(&mut self, addr: u8)
+        ensures { (known : CountsData) → CountsAre self.old known → CountsAre self.new (after_other known addr) }
+    {
+        self.others = self.others.saturating_add(1);
+        count_at(&mut self.devices, addr, What::Other);
+    }
+
     /// How many packets.
     pub(crate) fn packets(&self) -> u64
         ensures { result ≡ self.now.packets }
@@ -139,6 +159,13 @@ impl Counts {
         ensures { result ≡ self.now.bad_tokens }
     {
         self.bad_tokens
+    }
+
+    /// How many packets to addresses that speak no PMBus.
+    pub(crate) fn others(&self) -> u64
+        ensures { result ≡ self.now.others }
+    {
+        self.others
     }
 
     /// How often the device with an address came.

@@ -33,12 +33,14 @@ pub(crate) fn append_data<const N: usize>(
         return;
     };
     let mode = seen.mode(addr);
+    let basis = seen.basis(addr);
     let coefficients = device.vout_direct();
     data_members(
         out,
         seen.digits,
         access,
         mode,
+        basis,
         coefficients,
         code,
         entry.kind,

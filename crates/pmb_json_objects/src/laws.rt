@@ -5,6 +5,8 @@ ghost use Rattle.std.specs.Prelude.{ℕ, Bool, IfSome, List, Option};
 ghost use Rattle.std.specs.List.{AllByRecursion};
 ghost use Rattle.pmb_bus.specs.declared.event.Event.{Event};
 ghost use Rattle.pmb_bus.specs.declared.kinds.Kinds.{Kinds};
+ghost use Rattle.pmb_command.specs.Bus.{IsBus};
+ghost use Rattle.pmb_command.specs.Parts.{DeviceParts};
 ghost use Rattle.pmb_json_text.specs.Json.{IsJsonText};
 ghost use Rattle.pmb_json_text.specs.Member.{Member, object_line, object_of};
 ghost use Rattle.pmb_json_text.specs.Spelling.{AreBytes, FitsInLine, spelled};
@@ -14,14 +16,15 @@ ghost use Rattle.pmb_transaction.specs.declared.reason.Reason.{Reason};
 ghost use Rattle.pmb_transaction.specs.Transaction.{AlertData, CallData, PartData, ReadData, TransactionData};
 ghost use Rattle.pmb_json_objects.specs.BadToken.{bad_token_object};
 ghost use Rattle.pmb_json_objects.specs.Counts.{CountsData, DeviceData, counts_object, end_object, end_objects};
-ghost use Rattle.pmb_json_objects.specs.Laws.{IsCount, IsData, IsJsonObject, IsPlace, IsSeen, IsTransaction};
-ghost use Rattle.pmb_json_objects.specs.Packets.{alert_object, call_object, no_alert_object, packet_objects, read_object, refused_object, write_object};
+ghost use Rattle.pmb_json_objects.specs.Head.{Head};
+ghost use Rattle.pmb_json_objects.specs.Laws.{IsCount, IsData, IsHead, IsJsonObject, IsPlace, IsSeen, IsTime, IsTransaction};
+ghost use Rattle.pmb_json_objects.specs.Packets.{alert_object, call_object, no_alert_object, other_object, packet_objects, read_object, refused_object, write_object};
 ghost use Rattle.pmb_json_objects.specs.Refusals.{refusal_object};
 ghost use Rattle.pmb_json_objects.specs.Seen.{SeenData};
 
 pub use crate::kept::what_is_seen_fits;
 use pmb_decimal::laws::decimals_are_numbers;
-use pmb_json_fields::laws::keys_are_some_of_five;
+use pmb_json_fields::laws::keys_are_some_of_six;
 use pmb_json_text::laws::{
     digits_are_a_number, fewer_keys_are_distinct, line_is_json, spelling_fits_in_line,
     tested_keys_are_distinct,
@@ -39,24 +42,25 @@ pub fn objects_are_lines()
 
 /// Each object is JSON with distinct keys.
 pub fn objects_are_json()
-    ensures write { (seen : SeenData) (at : ℕ) (place : Place) (part parts : ℕ) (p : PartData)
-        → IsCount at → IsPlace place → IsCount part → IsCount parts → IsData seen p.addr p.code p.bytes
-        → IsJsonObject (write_object seen at place part parts p).members }
-    ensures read { (seen : SeenData) (at : ℕ) (place : Place) (t : ReadData)
-        → IsCount at → IsPlace place → IsData seen t.addr t.code t.reply → IsJsonObject (read_object seen at place t).members }
-    ensures call { (seen : SeenData) (at : ℕ) (place : Place) (t : CallData)
-        → IsCount at → IsPlace place → IsSeen seen t.addr → IsJsonObject (call_object seen at place t).members }
-    ensures refused { (seen : SeenData) (at : ℕ) (place : Place) (parts addr : ℕ) (sent : List ℕ) (at_read : Bool)
-        → IsCount at → IsPlace place → IsCount parts → IsSeen seen addr → IsJsonObject (refused_object seen at place parts addr sent at_read).members }
-    ensures alert { (at : ℕ) (place : Place) (t : AlertData) → IsCount at → IsPlace place → IsJsonObject (alert_object at place t).members }
-    ensures no_alert { (at : ℕ) (place : Place) → IsCount at → IsPlace place → IsJsonObject (no_alert_object at place).members }
-    ensures refusal { (seen : SeenData) (at : ℕ) (place : Place) (front : List Event) (event : Option Event) (reason : Reason) (expected : Kinds)
-        → IsCount at → IsPlace place → IfSome (written_to front) (IsSeen seen) → IsJsonObject (refusal_object seen at place front event reason expected).members }
-    ensures bad_token { (at : ℕ) (place : Place) (word : List ℕ) → IsCount at → IsPlace place → AreBytes word → IsJsonObject (bad_token_object at place word).members }
-    ensures counts { (addr : ℕ) (c : DeviceData) → IsJsonObject (counts_object addr c).members }
-    ensures end { (packets refusals bad_tokens : ℕ) → IsJsonObject (end_object packets refusals bad_tokens).members }
+    ensures write { (seen : SeenData) (head : Head) (part parts : ℕ) (p : PartData)
+        → IsHead head → IsCount part → IsCount parts → IsData seen p.addr p.code p.bytes
+        → IsJsonObject (write_object seen head part parts p).members }
+    ensures read { (seen : SeenData) (head : Head) (t : ReadData)
+        → IsHead head → IsData seen t.addr t.code t.reply → IsJsonObject (read_object seen head t).members }
+    ensures call { (seen : SeenData) (head : Head) (t : CallData)
+        → IsHead head → IsSeen seen t.addr → IsJsonObject (call_object seen head t).members }
+    ensures refused { (seen : SeenData) (head : Head) (parts addr : ℕ) (sent : List ℕ) (at_read : Bool)
+        → IsHead head → IsCount parts → IsSeen seen addr → IsJsonObject (refused_object seen head parts addr sent at_read).members }
+    ensures alert { (profile : List DeviceParts) (head : Head) (t : AlertData) → IsBus profile → IsHead head → IsJsonObject (alert_object profile head t).members }
+    ensures no_alert { (head : Head) → IsHead head → IsJsonObject (no_alert_object head).members }
+    ensures other { (head : Head) (addr : ℕ) → IsHead head → IsJsonObject (other_object head addr).members }
+    ensures refusal { (seen : SeenData) (head : Head) (front : List Event) (event : Option Event) (reason : Reason) (expected : Kinds)
+        → IsHead head → IsBus seen.profile → IfSome (written_to front) (IsSeen seen) → IsJsonObject (refusal_object seen head front event reason expected).members }
+    ensures bad_token { (head : Head) (word : List ℕ) → IsHead head → AreBytes word → IsJsonObject (bad_token_object head word).members }
+    ensures counts { (profile : List DeviceParts) (gives_others : Bool) (addr : ℕ) (c : DeviceData) → IsBus profile → IsJsonObject (counts_object profile gives_others addr c).members }
+    ensures end { (gives_others : Bool) (c : CountsData) → IsJsonObject (end_object gives_others c).members }
 {
-    keys_are_some_of_five();
+    keys_are_some_of_six();
     digits_are_a_number();
     decimals_are_numbers();
     lowest_terms();
@@ -66,10 +70,11 @@ pub fn objects_are_json()
 
 /// So is each object of a packet, and each of the last ones.
 pub fn all_objects_are_json()
-    ensures packet { (seen : SeenData) (place : ℕ → Place) (n : ℕ) (events : List Event) (t : TransactionData)
-        → ((at : ℕ) → IsPlace (place at)) → IsTransaction seen t
-        → AllByRecursion (λ object. IsJsonObject object.members) (packet_objects seen place n events t) }
-    ensures last { (c : CountsData) → AllByRecursion (λ object. IsJsonObject object.members) (end_objects c) }
+    ensures packet { (seen : SeenData) (place : ℕ → Place) (time : Option (List ℕ)) (n : ℕ) (events : List Event) (t : TransactionData)
+        → ((at : ℕ) → IsPlace (place at)) → IsTime time → IsTransaction seen t
+        → AllByRecursion (λ object. IsJsonObject object.members) (packet_objects seen place time n events t) }
+    ensures last { (profile : List DeviceParts) (gives_others : Bool) (c : CountsData) → IsBus profile
+        → AllByRecursion (λ object. IsJsonObject object.members) (end_objects profile gives_others c) }
 {
     objects_are_json();
 }

@@ -5,37 +5,38 @@
 ghost use Rattle.std.specs.Prelude.{◌≡◌, ◌+◌, ◌≤◌, ◌++◌, length};
 ghost use Rattle.pmb_json_text.specs.Member.{object_line};
 ghost use Rattle.pmb_transaction.specs.Transaction.{part_data};
-ghost use Rattle.pmb_json_objects.specs.Packets.{alert_object, call_object, no_alert_object, read_object, write_object};
+ghost use Rattle.pmb_json_objects.specs.Head.{head_of};
+ghost use Rattle.pmb_json_objects.specs.Packets.{alert_object, call_object, no_alert_object, other_object, read_object, write_object};
 ghost use Rattle.pmb_json_objects.specs.Seen.{SeenData};
 ghost use Rattle.pmb_json_objects.specs.Sees.{Sees};
 
 use crate::OBJECT;
 use crate::data::append_data;
-use crate::members::{append_byte, append_command, append_part, begin_object};
+use crate::head::Head;
+use crate::members::{append_byte, append_command, append_device, append_part, begin_object};
 use crate::seen::Seen;
 use arrayvec::ArrayVec;
 use pmb_json_fields::Access;
 use pmb_json_text::{ItemOrder, bool_member, end, hex_member, null_member};
-use pmb_places::Place;
+use pmb_table::Profile;
 use pmb_transaction::Part;
 
 /// Appends the line of a part: which one it is, of how many.
 pub fn write_line<const N: usize>(
     out: &mut ArrayVec<u8, N>,
     seen: &Seen<'_>,
-    at: u64,
-    place: Place,
+    head: Head<'_>,
     part: u64,
     parts: u64,
     written: &Part,
 )
     requires room { length out.old.items + OBJECT ≤ N }
-    ensures line { (known : SeenData) → Sees seen.now known → out.new.items ≡ out.old.items ++ object_line (write_object known at place part parts (part_data written.now)).members }
+    ensures line { (known : SeenData) → Sees seen.now known → out.new.items ≡ out.old.items ++ object_line (write_object known (head_of head.entry) part parts (part_data written.now)).members }
     ensures short { length out.new.items ≤ length out.old.items + OBJECT }
 {
-    begin_object(out, at, place, b"write");
+    begin_object(out, head, b"write");
     append_part(out, part, parts);
-    append_byte(out, "device", written.addr);
+    append_device(out, seen.profile, written.addr);
     append_command(out, seen, written.addr, written.code);
     hex_member(out, ItemOrder::Later, "bytes", written.bytes.as_slice());
     bool_member(out, ItemOrder::Later, "pec", written.pec);
@@ -54,8 +55,7 @@ pub fn write_line<const N: usize>(
 pub fn read_line<const N: usize>(
     out: &mut ArrayVec<u8, N>,
     seen: &Seen<'_>,
-    at: u64,
-    place: Place,
+    head: Head<'_>,
     addr: u8,
     code: u8,
     reply: &[u8],
@@ -64,11 +64,11 @@ pub fn read_line<const N: usize>(
     requires room { length out.old.items + OBJECT ≤ N }
     requires reply { length reply.now ≤ 255 }
     ensures line { (known : SeenData) → Sees seen.now known
-        → out.new.items ≡ out.old.items ++ object_line (read_object known at place (record { addr = addr; code = code; reply = reply.now; pec = pec })).members }
+        → out.new.items ≡ out.old.items ++ object_line (read_object known (head_of head.entry) (record { addr = addr; code = code; reply = reply.now; pec = pec })).members }
     ensures short { length out.new.items ≤ length out.old.items + OBJECT }
 {
-    begin_object(out, at, place, b"read");
-    append_byte(out, "device", addr);
+    begin_object(out, head, b"read");
+    append_device(out, seen.profile, addr);
     append_command(out, seen, addr, code);
     hex_member(out, ItemOrder::Later, "bytes", reply);
     bool_member(out, ItemOrder::Later, "pec", pec);
@@ -80,8 +80,7 @@ pub fn read_line<const N: usize>(
 pub fn call_line<const N: usize>(
     out: &mut ArrayVec<u8, N>,
     seen: &Seen<'_>,
-    at: u64,
-    place: Place,
+    head: Head<'_>,
     addr: u8,
     code: u8,
     sent: &[u8],
@@ -92,11 +91,11 @@ pub fn call_line<const N: usize>(
     requires sent { length sent.now ≤ 255 }
     requires reply { length reply.now ≤ 255 }
     ensures line { (known : SeenData) → Sees seen.now known
-        → out.new.items ≡ out.old.items ++ object_line (call_object known at place (record { addr = addr; code = code; bytes = sent.now; reply = reply.now; pec = pec })).members }
+        → out.new.items ≡ out.old.items ++ object_line (call_object known (head_of head.entry) (record { addr = addr; code = code; bytes = sent.now; reply = reply.now; pec = pec })).members }
     ensures short { length out.new.items ≤ length out.old.items + OBJECT }
 {
-    begin_object(out, at, place, b"call");
-    append_byte(out, "device", addr);
+    begin_object(out, head, b"call");
+    append_device(out, seen.profile, addr);
     append_command(out, seen, addr, code);
     hex_member(out, ItemOrder::Later, "sent", sent);
     hex_member(out, ItemOrder::Later, "reply", reply);
@@ -107,29 +106,40 @@ pub fn call_line<const N: usize>(
 /// Appends the line of a device that replied at the Alert Response Address, by its byte.
 pub fn alert_line<const N: usize>(
     out: &mut ArrayVec<u8, N>,
-    at: u64,
-    place: Place,
+    profile: &Profile,
+    head: Head<'_>,
     byte: u8,
     pec: bool,
 )
     requires room { length out.old.items + OBJECT ≤ N }
-    ensures line { out.new.items ≡ out.old.items ++ object_line (alert_object at place (record { byte = byte; pec = pec })).members }
+    ensures line { out.new.items ≡ out.old.items ++ object_line (alert_object profile.now (head_of head.entry) (record { byte = byte; pec = pec })).members }
     ensures short { length out.new.items ≤ length out.old.items + OBJECT }
 {
-    begin_object(out, at, place, b"alert");
-    append_byte(out, "device", byte / 2);
+    begin_object(out, head, b"alert");
+    append_device(out, profile, byte / 2);
     append_byte(out, "byte", byte);
     bool_member(out, ItemOrder::Later, "pec", pec);
     end(out);
 }
 
 /// Appends the line that says that no device replied there.
-pub fn no_alert_line<const N: usize>(out: &mut ArrayVec<u8, N>, at: u64, place: Place)
+pub fn no_alert_line<const N: usize>(out: &mut ArrayVec<u8, N>, head: Head<'_>)
     requires room { length out.old.items + OBJECT ≤ N }
-    ensures line { out.new.items ≡ out.old.items ++ object_line (no_alert_object at place).members }
+    ensures line { out.new.items ≡ out.old.items ++ object_line (no_alert_object (head_of head.entry)).members }
     ensures short { length out.new.items ≤ length out.old.items + OBJECT }
 {
-    begin_object(out, at, place, b"alert");
+    begin_object(out, head, b"alert");
     null_member(out, ItemOrder::Later, "device");
+    end(out);
+}
+
+/// Appends the line of a packet to an address that speaks no PMBus.
+pub fn other_line<const N: usize>(out: &mut ArrayVec<u8, N>, head: Head<'_>, addr: u8)
+    requires room { length out.old.items + OBJECT ≤ N }
+    ensures line { out.new.items ≡ out.old.items ++ object_line (other_object (head_of head.entry) addr).members }
+    ensures short { length out.new.items ≤ length out.old.items + OBJECT }
+{
+    begin_object(out, head, b"other");
+    append_byte(out, "device", addr);
     end(out);
 }

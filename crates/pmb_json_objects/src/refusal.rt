@@ -10,13 +10,16 @@ ghost use Rattle.pmb_json_text.specs.Member.{members_text, object_line};
 ghost use Rattle.pmb_partial_packet.specs.PartialPacket.{reply, sent, written_to};
 ghost use Rattle.pmb_partial_packet.specs.Standing.{SaidStandsAt};
 ghost use Rattle.pmb_transaction.specs.Capture.{Viable};
-ghost use Rattle.pmb_json_objects.specs.Refusals.{due_pec, refusal_object, reply_members, right_pec_members, said_device_member, written_members};
+ghost use Rattle.pmb_json_objects.specs.Head.{head_of};
+ghost use Rattle.pmb_json_objects.specs.Refusals.{due_pec, refusal_object, reply_members, right_pec_members, said_device_members, written_members};
 ghost use Rattle.pmb_json_objects.specs.Seen.{SeenData};
 ghost use Rattle.pmb_json_objects.specs.Sees.{Sees};
 
 use crate::OBJECT;
+use crate::head::Head;
 use crate::members::{
-    BYTE_MEMBER, COMMAND_MEMBERS, append_byte, append_sent_command, begin_object,
+    BYTE_MEMBER, COMMAND_MEMBERS, DEVICE_MEMBERS, append_byte, append_device, append_sent_command,
+    begin_object,
 };
 use crate::names::{append_got, append_kinds};
 use crate::seen::Seen;
@@ -24,7 +27,7 @@ use arrayvec::ArrayVec;
 use pmb_bus::{Event, Kinds};
 use pmb_json_text::{ItemOrder, TEXT_MEMBER, end, hex_member, text_member};
 use pmb_partial_packet::PartialPacket;
-use pmb_places::Place;
+use pmb_table::Profile;
 use pmb_transaction::Reason;
 
 /// The most bytes of the bytes of a leg.
@@ -33,14 +36,13 @@ const LEG_MEMBER: usize = TEXT_MEMBER + 2 * 258;
 /// The most bytes of what was sent.
 const WRITTEN_MEMBERS: usize = COMMAND_MEMBERS + LEG_MEMBER;
 
-/// Appends the line of a refusal: at which event, where its word stands, why and what was expected,
-/// which event it is (`None` where the events end), and the device, bytes and error code of the
-/// packet before it.
+/// Appends the line of a refusal: at which event, where its word stands and when, why and what was
+/// expected, which event it is (`None` where the events end), and the device, bytes and error code of
+/// the packet before it.
 pub fn refusal_line<const N: usize>(
     out: &mut ArrayVec<u8, N>,
     seen: &Seen<'_>,
-    at: u64,
-    place: Place,
+    head: Head<'_>,
     said: &PartialPacket,
     event: Option<Event>,
     reason: Reason,
@@ -48,14 +50,14 @@ pub fn refusal_line<const N: usize>(
 )
     requires room { length out.old.items + OBJECT ≤ N }
     ensures line { (known : SeenData) (profile : List DeviceParts) (front : List BusEvent) → Sees seen.now known → Viable profile front → SaidStandsAt said.now front
-        → out.new.items ≡ out.old.items ++ object_line (refusal_object known at place front event reason expected).members }
+        → out.new.items ≡ out.old.items ++ object_line (refusal_object known (head_of head.entry) front event reason expected).members }
     ensures short { length out.new.items ≤ length out.old.items + OBJECT }
 {
-    begin_object(out, at, place, b"refusal");
+    begin_object(out, head, b"refusal");
     text_member(out, ItemOrder::Later, "reason", reason.name());
     append_kinds(out, expected);
     append_got(out, event);
-    append_said_device(out, said.device());
+    append_said_device(out, seen.profile, said.device());
     append_written(out, seen, said);
     append_reply(out, said);
     append_right_pec(out, right_pec(said, reason, event));
@@ -63,13 +65,17 @@ pub fn refusal_line<const N: usize>(
 }
 
 /// Appends the device that a packet is to, if it says one.
-fn append_said_device<const N: usize>(out: &mut ArrayVec<u8, N>, device: Option<u8>)
-    requires room { length out.old.items + BYTE_MEMBER ≤ N }
-    ensures members { out.new.items ≡ out.old.items ++ members_text Later (said_device_member device) }
-    ensures short { length out.new.items ≤ length out.old.items + BYTE_MEMBER }
+fn append_said_device<const N: usize>(
+    out: &mut ArrayVec<u8, N>,
+    profile: &Profile,
+    device: Option<u8>,
+)
+    requires room { length out.old.items + DEVICE_MEMBERS ≤ N }
+    ensures members { out.new.items ≡ out.old.items ++ members_text Later (said_device_members profile.now device) }
+    ensures short { length out.new.items ≤ length out.old.items + DEVICE_MEMBERS }
 {
     if let Some(addr) = device {
-        append_byte(out, "device", addr);
+        append_device(out, profile, addr);
     }
 }
 

@@ -9,18 +9,21 @@ ghost use Rattle.pmb_command.specs.Parts.{device_with};
 ghost use Rattle.pmb_json_text.specs.declared.item_order.ItemOrder.TheVariants.{Later};
 ghost use Rattle.pmb_json_text.specs.Member.{members_text, object_line};
 ghost use Rattle.pmb_transaction.specs.Body.{forms};
+ghost use Rattle.pmb_json_objects.specs.Head.{head_of};
 ghost use Rattle.pmb_json_objects.specs.Packets.{is_whole_in, is_whole_write, may_check, refused_check, refused_name, refused_object, right_members};
 ghost use Rattle.pmb_json_objects.specs.Seen.{SeenData};
 ghost use Rattle.pmb_json_objects.specs.Sees.{Sees};
 
 use crate::OBJECT;
-use crate::members::{BYTE_MEMBER, append_byte, append_part, append_sent_command, begin_object};
+use crate::head::Head;
+use crate::members::{
+    BYTE_MEMBER, append_byte, append_device, append_part, append_sent_command, begin_object,
+};
 use crate::seen::Seen;
 use arrayvec::ArrayVec;
 use pmb_bus::{pec_next, write_address};
 use pmb_command::{Form, PecMode};
 use pmb_json_text::{ItemOrder, TEXT_MEMBER, end, hex_member, text_member};
-use pmb_places::Place;
 use pmb_table::DeviceProfile;
 use pmb_table::laws::accepted_bus;
 
@@ -31,8 +34,7 @@ const CHECK_MEMBERS: usize = TEXT_MEMBER + 6 * 5 + BYTE_MEMBER;
 pub fn refused_line<const N: usize>(
     out: &mut ArrayVec<u8, N>,
     seen: &Seen<'_>,
-    at: u64,
-    place: Place,
+    head: Head<'_>,
     parts: u64,
     addr: u8,
     sent: &[u8],
@@ -40,12 +42,12 @@ pub fn refused_line<const N: usize>(
 )
     requires room { length out.old.items + OBJECT ≤ N }
     requires sent { length sent.now ≤ 258 }
-    ensures line { (known : SeenData) → Sees seen.now known → out.new.items ≡ out.old.items ++ object_line (refused_object known at place parts addr sent.now at_read).members }
+    ensures line { (known : SeenData) → Sees seen.now known → out.new.items ≡ out.old.items ++ object_line (refused_object known (head_of head.entry) parts addr sent.now at_read).members }
     ensures short { length out.new.items ≤ length out.old.items + OBJECT }
 {
-    begin_object(out, at, place, b"refused");
+    begin_object(out, head, b"refused");
     append_part(out, parts, parts);
-    append_byte(out, "device", addr);
+    append_device(out, seen.profile, addr);
     text_member(
         out,
         ItemOrder::Later,

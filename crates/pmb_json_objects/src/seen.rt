@@ -5,11 +5,12 @@
 ghost use Rattle.std.specs.Prelude.{◌≡◌, option_map};
 ghost use Rattle.pmb_command.specs.Entry.{entry_parts};
 ghost use Rattle.pmb_command.specs.Parts.{device_with};
-ghost use Rattle.pmb_json_objects.specs.Seen.{SeenData, entry_at, mode_at, page_at};
+ghost use Rattle.pmb_json_objects.specs.Seen.{SeenData, basis_at, entry_at, mode_at, page_at};
 ghost use Rattle.pmb_json_objects.specs.Sees.{Sees};
 
 use pmb_command::Entry;
 use pmb_decimal::Digits;
+use pmb_json_fields::Basis;
 use pmb_table::{DeviceProfile, Profile};
 use pmb_unknown_start::{KnownMode, Late};
 
@@ -52,5 +53,12 @@ impl<'s> Seen<'s> {
         ensures { (known : SeenData) → Sees self.now known → result ≡ mode_at known addr }
     {
         self.late.mode(addr)
+    }
+
+    /// What that VOUT_MODE rests on.
+    pub(crate) fn basis(&self, addr: u8) -> Basis
+        ensures { (known : SeenData) → Sees self.now known → result ≡ basis_at known addr }
+    {
+        Basis::of(self.late.is_assumed(addr))
     }
 }

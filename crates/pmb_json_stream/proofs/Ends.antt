@@ -1,7 +1,8 @@
 -- Where events end: inside a packet, or between two. For `put_bad_word` and `put_end`. The last
 -- span is an end inside a packet exactly where the reader stands in one; then its object goes out
 -- before the counts, and it counts as a refusal.
-use Rattle.std.proofs.Common.{◌≡◌, ◌≢◌, ℕ, ◌+◌, Some, None, List, [], ◌∷◌, ◌++◌, codes, length, append-nil, refl, sym}
+use Rattle.std.proofs.Common.{◌≡◌, ◌≢◌, ℕ, ◌+◌, Option, Some, None, List, [], ◌∷◌, ◌++◌, codes, filter, length}
+use Rattle.std.proofs.Common.{append-nil, refl, sym}
 use Rattle.std.proofs.Common.{ap, ◌∙◌, subst, arith}
 use Rattle.pmb_bus.specs.declared.event.Event.{Event}
 use Rattle.pmb_bus.specs.Text.{EndsBetween, Spells}
@@ -10,6 +11,7 @@ use Rattle.pmb_io.specs.Count.{capped}
 use Rattle.pmb_json_text.specs.Json.{string}
 use Rattle.pmb_json_text.specs.Member.{named}
 use Rattle.pmb_json_objects.specs.Counts.{CountsData, after_refusal, end_objects}
+use Rattle.pmb_json_objects.specs.Head.{Head}
 use Rattle.pmb_json_objects.specs.Members.{head_members}
 use Rattle.pmb_json_objects.specs.Object.{Object, of_none}
 use Rattle.pmb_json_objects.specs.Refusals.{refusal_object}
@@ -25,10 +27,14 @@ use Rattle.pmb_spans.specs.Spans.{Span, ReadSpan, RefusedSpan, TruncatedSpan, Sp
 use Rattle.pmb_transaction.specs.Capture.{Viable}
 use Rattle.pmb_transaction.specs.Reading.{RefusalData, TruncatedAt}
 use Rattle.pmb_json_stream.specs.Before.{Before}
-use Rattle.pmb_json_stream.specs.Choice.{ChoiceData}
-use Rattle.pmb_json_stream.specs.Spans.{after_spans, event_place, seen_behind, span_objects, transactions_in}
+use Rattle.pmb_json_stream.specs.Choice.{ChoiceData, gives_others}
+use Rattle.pmb_json_stream.specs.Spans.{IsNoneOutside, after_either, after_open, after_some, after_spans}
+use Rattle.pmb_json_stream.specs.Spans.{event_place, event_time, seen_behind, span_objects, transactions_in}
+use Rattle.pmb_json_stream.specs.Others.{is_untold, other_address}
 use Rattle.pmb_json_stream.proofs.Places.{EachWordHasPlace, stands_behind_all}
+use Rattle.pmb_json_stream.proofs.Others.{other_told, packet_untold}
 use Rattle.pmb_json_stream.proofs.Spans.{counts_append}
+use Rattle.pmb_json_stream.proofs.Adding.{head_as, own_objects}
 
 -- a list that ends with something is not empty
 not_none : (spans : List Span) (last : Span) → spans ++ last ∷ [] ≢ []
@@ -56,6 +62,7 @@ pub record EndsInside (reached : Reached) (n : ℕ) (front : List Event) : Type 
   -- the reader stands inside a packet that began at event n
   pub standing : reached.standing ≡ Open n front
   pub viable : Viable reached.profile front
+  pub some : front ≢ []
 
 -- .. which is where an end is refused
 ends_at : (reached : Reached) (standing : Standing) (refusal : Refusal) → reached.standing ≡ standing
@@ -64,7 +71,7 @@ ends_at reached (Open n front) refusal is end =
     let spans = subst (λ (s : Standing). SpansFrom reached.profile 0 reached.events
     (reached.spans ++ end_spans s (Some refusal))) is end.spans in
     let last = last_is_end reached.profile reached.spans 0 reached.events n front (refusal_data refusal) spans in
-    (n, front, record { standing = is; viable = last.1.under_way.viable })
+    (n, front, record { standing = is; viable = last.1.under_way.viable; some = last.1.some })
 ends_at reached (Held n held) refusal is end =
     let spans = subst (λ (s : Standing). SpansFrom reached.profile 0 reached.events
     (reached.spans ++ end_spans s (Some refusal))) is end.spans in
@@ -88,28 +95,38 @@ no_end (Passing n) = refl
 
 -- the object of an end inside a packet
 pub end_object : EachWordHasPlace → (choice : ChoiceData) (profile : List DeviceParts) (b : Before) (reached : Reached)
-    (n : ℕ) (front : List Event) (refusal : Refusal)
+    (n : ℕ) (front : List Event) (refusal : Refusal) (time : Option (List ℕ))
     → EndsBetween b.read → Spells reached.text reached.events → reached.standing ≡ Open n front
-    → n + length front ≡ length reached.events
+    → n + length front ≡ length reached.events → time ≡ event_time b.n reached.text (b.n + n)
+    → other_address choice.ignored front ≡ None
     → refusal_object (seen_behind choice profile (b.ts ++ transactions_in reached.spans))
-    (capped (b.n + length reached.events)) (end_of_last_word (b.read ++ reached.text)) front None refusal.reason
-    refusal.expected ∷ []
-    ≡ span_objects choice profile (event_place b.read b.n reached.text) (b.ts ++ transactions_in reached.spans)
-    (moved_spans b.n (end_spans reached.standing (Some refusal)))
-end_object law choice profile b reached n front refusal between spells standing counted =
+    (head_as (capped (b.n + length reached.events)) (end_of_last_word (b.read ++ reached.text)) time) front None
+    refusal.reason refusal.expected ∷ []
+    ≡ span_objects choice profile (event_place b.read b.n reached.text) (event_time b.n reached.text)
+    (b.ts ++ transactions_in reached.spans)
+    (moved_spans b.n (filter (is_untold choice.ignored) (end_spans reached.standing (Some refusal))))
+end_object law choice profile b reached n front refusal time between spells standing counted timed none =
     let place = event_place b.read b.n reached.text in
+    let times = event_time b.n reached.text in
     let seen = seen_behind choice profile (b.ts ++ transactions_in reached.spans) in
     let at : b.n + length reached.events ≡ (b.n + n) + length front = omega (arith, counted) in
-    let one = λ (k : ℕ) (p : Place). refusal_object seen (capped k) p front None refusal.reason refusal.expected ∷ [] in
-    ap (one (b.n + length reached.events)) (sym
+    let one = λ (k : ℕ) (p : Place) (o : Option (List ℕ)). refusal_object seen (head_as (capped k) p o) front None
+    refusal.reason refusal.expected ∷ [] in
+    let objects = λ (l : List Span). span_objects choice profile place times (b.ts ++ transactions_in reached.spans)
+    (moved_spans b.n l) in
+    ap (λ (p : Place). one (b.n + length reached.events) p time) (sym
     (stands_behind_all law b.read reached.text b.n reached.events between spells))
-    ∙ ap (λ (k : ℕ). one k (place k)) at
-    ∙ ap (λ (s : Standing). span_objects choice profile place (b.ts ++ transactions_in reached.spans)
-    (moved_spans b.n (end_spans s (Some refusal)))) (sym standing)
+    ∙ ap (λ (k : ℕ). one k (place k) time) at
+    ∙ ap (one ((b.n + n) + length front) (place ((b.n + n) + length front))) timed
+    ∙ sym (own_objects choice profile b place times (b.n + n)
+    (one ((b.n + n) + length front) (place ((b.n + n) + length front)) (times (b.n + n)))
+    (other_address choice.ignored front) none)
+    ∙ ap objects (sym (packet_untold choice.ignored n front (refusal_data refusal) none))
+    ∙ ap (λ (s : Standing). objects (filter (is_untold choice.ignored) (end_spans s (Some refusal)))) (sym standing)
 
 -- the object of a word of which these bytes are told
-abbrev pub shown_object : ℕ → Place → List ℕ → Object
-shown_object at place told = of_none (head_members at place (codes "bad_token") ++ named (codes "word") (string told)
+abbrev pub shown_object : Head → List ℕ → Object
+shown_object head told = of_none (head_members head (codes "bad_token") ++ named (codes "word") (string told)
     ∷ [])
 
 -- ---- the objects of the end
@@ -117,48 +134,105 @@ shown_object at place told = of_none (head_members at place (codes "bad_token") 
 -- what is put out where these spans come last
 abbrev pub last_objects : ChoiceData → List DeviceParts → Before → Reached → List Span → List Object
 last_objects choice profile b reached last =
-    span_objects choice profile (event_place b.read b.n reached.text) (b.ts ++ transactions_in reached.spans)
-    (moved_spans b.n last)
-    ++ end_objects (after_spans b.counts (reached.spans ++ last))
+    span_objects choice profile (event_place b.read b.n reached.text) (event_time b.n reached.text)
+    (b.ts ++ transactions_in reached.spans) (moved_spans b.n (filter (is_untold choice.ignored) last))
+    ++ end_objects profile (gives_others choice) (after_spans choice.ignored b.counts (reached.spans ++ last))
+
+-- what was counted before the end
+abbrev pub counted_so_far : Option (List ℕ) → Before → Reached → CountsData
+counted_so_far ignored b reached = after_open ignored (after_spans ignored b.counts reached.spans) reached.standing
+
+none_open_at : (ignored : Option (List ℕ)) (c : CountsData) (standing : Standing)
+    → ((n : ℕ) (front : List Event) → standing ≡ Open n front → front ≡ []) → after_open ignored c standing ≡ c
+none_open_at ignored c (Open n front) none = ap (λ (l : List Event). after_some c (other_address ignored l))
+    (none n front refl)
+none_open_at ignored c (Held n refusal) none = refl
+none_open_at ignored c (Passing n) none = refl
+
+-- between two packets
+pub counts_at_no_end : (ignored : Option (List ℕ)) (b : Before) (reached : Reached) → IsNoneOutside reached None
+    → counted_so_far ignored b reached ≡ after_spans ignored b.counts (reached.spans ++ end_spans reached.standing None)
+counts_at_no_end ignored b reached none =
+    none_open_at ignored (after_spans ignored b.counts reached.spans) reached.standing
+    (λ n front standing. none n front standing refl)
+    ∙ ap (after_spans ignored b.counts) (sym (append-nil reached.spans))
+    ∙ ap (λ (l : List Span). after_spans ignored b.counts (reached.spans ++ l)) (sym (no_end reached.standing))
 
 pub none_at_end : (choice : ChoiceData) (profile : List DeviceParts) (b : Before) (reached : Reached)
-    → end_objects (after_spans b.counts reached.spans) ≡ last_objects choice profile b reached
-    (end_spans reached.standing None)
-none_at_end choice profile b reached =
-    ap (λ (l : List Span). end_objects (after_spans b.counts l)) (sym (append-nil reached.spans))
-    ∙ ap (last_objects choice profile b reached) (sym (no_end reached.standing))
+    → IsNoneOutside reached None
+    → end_objects profile (gives_others choice) (counted_so_far choice.ignored b reached)
+    ≡ last_objects choice profile b reached (end_spans reached.standing None)
+none_at_end choice profile b reached none =
+    ap (end_objects profile (gives_others choice)) (counts_at_no_end choice.ignored b reached none)
+    ∙ ap (λ (l : List Span). span_objects choice profile (event_place b.read b.n reached.text)
+    (event_time b.n reached.text) (b.ts ++ transactions_in reached.spans)
+    (moved_spans b.n (filter (is_untold choice.ignored) l))
+    ++ end_objects profile (gives_others choice)
+    (after_spans choice.ignored b.counts (reached.spans ++ end_spans reached.standing None)))
+    (sym (no_end reached.standing))
 
--- what is counted after them
-pub counts_at_end : (b : Before) (reached : Reached) (n : ℕ) (front : List Event) (refusal : Refusal)
-    → reached.standing ≡ Open n front
-    → after_refusal (after_spans b.counts reached.spans) (said_device front)
-    ≡ after_spans b.counts (reached.spans ++ end_spans reached.standing (Some refusal))
-counts_at_end b reached n front refusal standing =
-    sym (counts_append b.counts reached.spans (TruncatedSpan n front (refusal_data refusal) ∷ []))
-    ∙ ap (λ (s : Standing). after_spans b.counts (reached.spans ++ end_spans s (Some refusal))) (sym standing)
+-- inside an other
+pub counts_in_other : (ignored : Option (List ℕ)) (b : Before) (reached : Reached) (n : ℕ) (front : List Event)
+    (refusal : Refusal) (addr : ℕ) → reached.standing ≡ Open n front → other_address ignored front ≡ Some addr
+    → counted_so_far ignored b reached
+    ≡ after_spans ignored b.counts (reached.spans ++ end_spans reached.standing (Some refusal))
+counts_in_other ignored b reached n front refusal addr standing is =
+    let counts = after_spans ignored b.counts reached.spans in
+    let span = TruncatedSpan n front (refusal_data refusal) in
+    ap (after_open ignored counts) standing ∙ ap (after_some counts) is
+    ∙ sym (ap (λ (o : Option ℕ). after_either counts o span) is)
+    ∙ sym (counts_append ignored b.counts reached.spans (span ∷ []))
+    ∙ ap (λ (s : Standing). after_spans ignored b.counts (reached.spans ++ end_spans s (Some refusal))) (sym standing)
 
-pub counts_at_no_end : (b : Before) (reached : Reached) → after_spans b.counts reached.spans
-    ≡ after_spans b.counts (reached.spans ++ end_spans reached.standing None)
-counts_at_no_end b reached =
-    ap (after_spans b.counts) (sym (append-nil reached.spans))
-    ∙ ap (λ (l : List Span). after_spans b.counts (reached.spans ++ l)) (sym (no_end reached.standing))
+pub other_at_end : (choice : ChoiceData) (profile : List DeviceParts) (b : Before) (reached : Reached) (n : ℕ)
+    (front : List Event) (refusal : Refusal) (addr : ℕ) → reached.standing ≡ Open n front
+    → other_address choice.ignored front ≡ Some addr
+    → end_objects profile (gives_others choice) (counted_so_far choice.ignored b reached)
+    ≡ last_objects choice profile b reached (end_spans reached.standing (Some refusal))
+other_at_end choice profile b reached n front refusal addr standing is =
+    let objects = λ (l : List Span). span_objects choice profile (event_place b.read b.n reached.text)
+    (event_time b.n reached.text) (b.ts ++ transactions_in reached.spans) (moved_spans b.n l)
+    ++ end_objects profile (gives_others choice)
+    (after_spans choice.ignored b.counts (reached.spans ++ end_spans reached.standing (Some refusal))) in
+    ap (end_objects profile (gives_others choice))
+    (counts_in_other choice.ignored b reached n front refusal addr standing is)
+    ∙ ap objects (sym (other_told choice.ignored n front (refusal_data refusal) addr is))
+    ∙ ap (λ (s : Standing). objects (filter (is_untold choice.ignored) (end_spans s (Some refusal)))) (sym standing)
+
+-- inside a packet
+pub counts_at_end : (ignored : Option (List ℕ)) (b : Before) (reached : Reached) (n : ℕ) (front : List Event)
+    (refusal : Refusal) → reached.standing ≡ Open n front → other_address ignored front ≡ None
+    → after_refusal (counted_so_far ignored b reached) (said_device front)
+    ≡ after_spans ignored b.counts (reached.spans ++ end_spans reached.standing (Some refusal))
+counts_at_end ignored b reached n front refusal standing none =
+    let counts = after_spans ignored b.counts reached.spans in
+    let span = TruncatedSpan n front (refusal_data refusal) in
+    ap (λ (c : CountsData). after_refusal c (said_device front))
+    (ap (after_open ignored counts) standing ∙ ap (after_some counts) none)
+    ∙ sym (ap (λ (o : Option ℕ). after_either counts o span) none)
+    ∙ sym (counts_append ignored b.counts reached.spans (span ∷ []))
+    ∙ ap (λ (s : Standing). after_spans ignored b.counts (reached.spans ++ end_spans s (Some refusal))) (sym standing)
 
 pub one_at_end : EachWordHasPlace → (choice : ChoiceData) (profile : List DeviceParts) (b : Before) (reached : Reached)
-    (n : ℕ) (front : List Event) (refusal : Refusal) (place : Place)
+    (n : ℕ) (front : List Event) (refusal : Refusal) (place : Place) (time : Option (List ℕ))
     → EndsBetween b.read → Spells reached.text reached.events → reached.standing ≡ Open n front
     → n + length front ≡ length reached.events → place ≡ end_of_last_word (b.read ++ reached.text)
+    → time ≡ event_time b.n reached.text (b.n + n) → other_address choice.ignored front ≡ None
     → refusal_object (seen_behind choice profile (b.ts ++ transactions_in reached.spans))
-    (capped (b.n + length reached.events)) place front None refusal.reason refusal.expected
-    ∷ end_objects (after_refusal (after_spans b.counts reached.spans) (said_device front))
+    (head_as (capped (b.n + length reached.events)) place time) front None refusal.reason refusal.expected
+    ∷ end_objects profile (gives_others choice)
+    (after_refusal (counted_so_far choice.ignored b reached) (said_device front))
     ≡ last_objects choice profile b reached (end_spans reached.standing (Some refusal))
-one_at_end law choice profile b reached n front refusal place between spells standing counted placed =
+one_at_end law choice profile b reached n front refusal place time between spells standing counted placed timed none =
     let seen = seen_behind choice profile (b.ts ++ transactions_in reached.spans) in
-    let object = λ (p : Place). refusal_object seen (capped (b.n + length reached.events)) p front None refusal.reason
-    refusal.expected ∷ [] in
-    let counts = after_refusal (after_spans b.counts reached.spans) (said_device front) in
-    ap (λ (os : List Object). os ++ end_objects counts)
-    (ap object placed ∙ end_object law choice profile b reached n front refusal between spells standing counted)
+    let object = λ (p : Place). refusal_object seen (head_as (capped (b.n + length reached.events)) p time) front None
+    refusal.reason refusal.expected ∷ [] in
+    let counts = after_refusal (counted_so_far choice.ignored b reached) (said_device front) in
+    ap (λ (os : List Object). os ++ end_objects profile (gives_others choice) counts)
+    (ap object placed
+    ∙ end_object law choice profile b reached n front refusal time between spells standing counted timed none)
     ∙ ap (λ (c : CountsData). span_objects choice profile (event_place b.read b.n reached.text)
-    (b.ts ++ transactions_in reached.spans) (moved_spans b.n (end_spans reached.standing (Some refusal)))
-    ++ end_objects c)
-    (counts_at_end b reached n front refusal standing)
+    (event_time b.n reached.text) (b.ts ++ transactions_in reached.spans)
+    (moved_spans b.n (filter (is_untold choice.ignored) (end_spans reached.standing (Some refusal))))
+    ++ end_objects profile (gives_others choice) c)
+    (counts_at_end choice.ignored b reached n front refusal standing none)

@@ -1,11 +1,17 @@
 pub mod Lines
+pub mod Fronts
+pub mod Others
 pub mod Lists
 pub mod Putting
 pub mod Spans
 pub mod Starts
+pub mod UnderWay
+pub mod Beginnings
 pub mod Places
 pub mod Standing
+pub mod Adding
 pub mod Told
+pub mod ToldSpans
 pub mod Wholes
 pub mod Ends
 pub mod Counts

@@ -1,7 +1,7 @@
 -- What spans say, one list after the other: their transactions, counts and objects. For each
 -- function that tells of a span more (`take_group`, `take_line`, `take_word`, `put_bad_word`,
 -- `put_end`, and the visits). By induction over the spans.
-use Rattle.std.proofs.Common.{◌≡◌, ℕ, ◌+◌, Some, None, List, [], ◌∷◌, ◌++◌, length, append-nil, append_assoc, refl, sym}
+use Rattle.std.proofs.Common.{◌≡◌, ℕ, Option, Some, None, List, [], ◌∷◌, ◌++◌, append-nil, append_assoc, refl, sym}
 use Rattle.std.proofs.Common.{ap, ◌∙◌}
 use Rattle.std.proofs.lemmas.List.{map-append}
 use Rattle.std.proofs.lemmas.List.Sums.{fold-append}
@@ -13,7 +13,8 @@ use Rattle.pmb_places.specs.declared.places.Place.{Place}
 use Rattle.pmb_spans.specs.Spans.{Span, ReadSpan, RefusedSpan, TruncatedSpan, moved_spans}
 use Rattle.pmb_transaction.specs.Transaction.{TransactionData}
 use Rattle.pmb_json_stream.specs.Choice.{ChoiceData}
-use Rattle.pmb_json_stream.specs.Spans.{after_span, after_spans, refused_span, seen_behind, span_objects}
+use Rattle.pmb_json_stream.specs.Spans.{after_span, after_spans, other_or, refused_span, seen_behind, span_objects}
+use Rattle.pmb_json_stream.specs.Others.{other_address}
 use Rattle.pmb_json_stream.specs.Spans.{transactions_in}
 
 -- ---- transactions, counts
@@ -31,38 +32,42 @@ transactions_moved n (ReadSpan m events t ∷ spans) = ap (λ (ts : List Transac
 transactions_moved n (RefusedSpan m front event refusal ∷ spans) = transactions_moved n spans
 transactions_moved n (TruncatedSpan m front refusal ∷ spans) = transactions_moved n spans
 
-pub counts_append : (c : CountsData) (a b : List Span) → after_spans c (a ++ b) ≡ after_spans (after_spans c a) b
-counts_append c a b = fold-append after_span c a b
+pub counts_append : (ignored : Option (List ℕ)) (c : CountsData) (a b : List Span)
+    → after_spans ignored c (a ++ b) ≡ after_spans ignored (after_spans ignored c a) b
+counts_append ignored c a b = fold-append (after_span ignored) c a b
 
 -- ---- objects
 
-module _ (choice : ChoiceData) (profile : List DeviceParts) (place : ℕ → Place) where
+module _ (choice : ChoiceData) (profile : List DeviceParts) (place : ℕ → Place) (times : ℕ → Option (List ℕ)) where
   objects_append : (before : List TransactionData) (a b : List Span)
-      → span_objects choice profile place before (a ++ b) ≡ span_objects choice profile place before a
-      ++ span_objects choice profile place (before ++ transactions_in a) b
-  objects_append before [] b = ap (λ (ts : List TransactionData). span_objects choice profile place ts b)
+      → span_objects choice profile place times before (a ++ b) ≡ span_objects choice profile place times before a
+      ++ span_objects choice profile place times (before ++ transactions_in a) b
+  objects_append before [] b = ap (λ (ts : List TransactionData). span_objects choice profile place times ts b)
       (sym (append-nil before))
   objects_append before (ReadSpan n events t ∷ a) b =
-      let first = packet_objects (seen_behind choice profile before) place n events t in
+      let first = other_or choice profile place times n (other_address choice.ignored events)
+      (packet_objects (seen_behind choice profile before) place (times n) n events t) in
       ap (λ (os : List Object). first ++ os)
       (objects_append (before ++ t ∷ []) a b
-      ∙ ap (λ (ts : List TransactionData). span_objects choice profile place (before ++ t ∷ []) a
-      ++ span_objects choice profile place ts b) (append_assoc before (t ∷ []) (transactions_in a)))
+      ∙ ap (λ (ts : List TransactionData). span_objects choice profile place times (before ++ t ∷ []) a
+      ++ span_objects choice profile place times ts b) (append_assoc before (t ∷ []) (transactions_in a)))
       ∙ sym (append_assoc first _ _)
   objects_append before (RefusedSpan n front event refusal ∷ a) b =
-      ap (λ (os : List Object). refused_span choice profile place before (n + length front) front (Some event) refusal
-      ∷ os) (objects_append before a b)
+      let first = other_or choice profile place times n (other_address choice.ignored (front ++ event ∷ []))
+      (refused_span choice profile place times before n front (Some event) refusal ∷ []) in
+      ap (λ (os : List Object). first ++ os) (objects_append before a b) ∙ sym (append_assoc first _ _)
   objects_append before (TruncatedSpan n front refusal ∷ a) b =
-      ap (λ (os : List Object). refused_span choice profile place before (n + length front) front None refusal ∷ os)
-      (objects_append before a b)
+      let first = other_or choice profile place times n (other_address choice.ignored front)
+      (refused_span choice profile place times before n front None refusal ∷ []) in
+      ap (λ (os : List Object). first ++ os) (objects_append before a b) ∙ sym (append_assoc first _ _)
 
   -- of spans that are moved, and others after them
   pub objects_moved : (before : List TransactionData) (n : ℕ) (a b : List Span)
-      → span_objects choice profile place before (moved_spans n (a ++ b))
-      ≡ span_objects choice profile place before (moved_spans n a) ++ span_objects choice profile place
+      → span_objects choice profile place times before (moved_spans n (a ++ b))
+      ≡ span_objects choice profile place times before (moved_spans n a) ++ span_objects choice profile place times
       (before ++ transactions_in a) (moved_spans n b)
   objects_moved before n a b =
-      ap (span_objects choice profile place before) (map-append _ a b) ∙ objects_append before (moved_spans n a)
+      ap (span_objects choice profile place times before) (map-append _ a b) ∙ objects_append before (moved_spans n a)
       (moved_spans n b)
-      ∙ ap (λ (ts : List TransactionData). span_objects choice profile place before (moved_spans n a)
-      ++ span_objects choice profile place (before ++ ts) (moved_spans n b)) (transactions_moved n a)
+      ∙ ap (λ (ts : List TransactionData). span_objects choice profile place times before (moved_spans n a)
+      ++ span_objects choice profile place times (before ++ ts) (moved_spans n b)) (transactions_moved n a)

@@ -2,7 +2,7 @@
 -- `text_length` of `src/groups.rt`, since each part's object needs the place of its START. Before
 -- STOP each event is inside the packet, its text is at the front of what is left, and the next
 -- event's comes after it.
-use Rattle.std.proofs.Common.{◌≡◌, ℕ, ◌+◌, Option, Some, None, List, [], ◌∷◌, ◌++◌, length, take, drop, append-nil}
+use Rattle.std.proofs.Common.{◌≡◌, ◌≢◌, ℕ, ◌+◌, Option, Some, None, List, [], ◌∷◌, ◌++◌, length, take, drop, append-nil}
 use Rattle.std.proofs.Common.{append_assoc, length-append, refl, sym, ap, ◌∙◌, subst, arith}
 use Rattle.std.proofs.Math.Seq.{take-append_seam, drop-append_seam}
 use Rattle.std.proofs.lemmas.Grind.{flat_map-append}
@@ -107,6 +107,14 @@ are_inside (Nack ∷ front) none small = (
 )
 are_inside (Stop ∷ front) none small = absurd (none [] front refl)
 
+-- none of them is STOP
+pub is_no_stop : (event : Event) → IsInside event → event ≢ Stop
+is_no_stop Start inside = λ is. cc is
+is_no_stop (Byte b) inside = λ is. cc is
+is_no_stop Ack inside = λ is. cc is
+is_no_stop Nack inside = λ is. cc is
+is_no_stop Stop inside = absurd inside
+
 -- their bytes are below 256
 one_byte : (event : Event) → IsInside event → AreBytes (event ∷ [])
 one_byte Start inside = tt
@@ -157,6 +165,7 @@ pub record IsNext (event : Event) (back : List Event) (text : List ℕ) : Type 0
   pub split : back ≡ event ∷ more
   pub is_text : text ≡ text_of event ++ canonical_text (more ++ Stop ∷ [])
   pub is_inside : AreInside more
+  pub event_inside : IsInside event
 
 pub next_event : (back : List Event) (text : List ℕ) (result : Option Event) (event : Event) → FindsEvent text result
     → FindsStop text result → result ≡ Some event
@@ -172,6 +181,7 @@ next_event (e ∷ back) text result event finds stops is inside same =
       split = ap (λ (x : Event). x ∷ back) one;
       is_text = same ∙ ap (λ (x : Event). text_of x ++ canonical_text (back ++ Stop ∷ [])) one;
       is_inside = inside.1;
+      event_inside = subst IsInside one inside.0;
     }
 
 -- where none is found STOP stands

@@ -1,4 +1,6 @@
 pub mod Choice
+pub mod UnderWay
+pub mod Others
 pub mod Spans
 pub mod Before
 pub mod Stream

@@ -11,8 +11,9 @@ use Rattle.pmb_scan.specs.Reached.{Reached}
 use Rattle.pmb_spans.specs.Spans.{moved_spans}
 use Rattle.pmb_json_stream.specs.declared.stream.Stream.{Stream}
 use Rattle.pmb_json_stream.specs.Before.{Before}
+use Rattle.pmb_json_stream.specs.UnderWay.{open_time}
 use Rattle.pmb_json_stream.specs.Choice.{ChoiceData}
-use Rattle.pmb_json_stream.specs.Spans.{event_place, span_objects}
+use Rattle.pmb_json_stream.specs.Spans.{event_place, event_time, open_objects, span_objects}
 pub use Rattle.pmb_json_stream.specs.machine.Knowing.{
   StreamKnows,
   StreamBegins,
@@ -20,6 +21,7 @@ pub use Rattle.pmb_json_stream.specs.machine.Knowing.{
   stream_choice,
   stream_profile,
   stream_tally,
+  stream_time,
 }
 
 -- the same choice, under the same profile
@@ -27,18 +29,26 @@ pub record IsSame (start now : Stream) : Type 0 where
   pub choice : stream_choice now ≡ stream_choice start
   pub profile : stream_profile now ≡ stream_profile start
 
--- The lines of what a scan has reached that began after `b`, whatever text follows: each place is
--- known by then.
+-- The lines of what a scan has reached that began after `b`, with that of an other that is under way,
+-- whatever text follows: each place and each time is known by then.
 abbrev pub AreLinesOf : ChoiceData → List DeviceParts → Before → Reached → List ℕ → Type 0
 AreLinesOf choice profile b reached text =
     (more : List ℕ) → text ≡ object_lines choice.devices
-    (span_objects choice profile (event_place b.read b.n (reached.text ++ more)) b.ts (moved_spans b.n reached.spans))
+    (span_objects choice profile (event_place b.read b.n (reached.text ++ more)) (event_time b.n (reached.text ++ more))
+    b.ts (moved_spans b.n reached.spans)
+    ++ open_objects choice profile (event_place b.read b.n (reached.text ++ more))
+    (event_time b.n (reached.text ++ more)) b.n reached.standing)
+
+-- The time that the stream keeps is that of what is under way, whatever text follows.
+abbrev pub KeepsOpenTime : Stream → Reached → Type 0
+KeepsOpenTime stream reached = (more : List ℕ) → stream_time stream ≡ open_time (reached.text ++ more) reached.events
 
 -- Where the stream began after `b`, it stands at what was reached, and has put out the lines of
 -- that.
 pub record HasToldOf (b : Before) (start now : Stream) (reached : Reached) (text : List ℕ) : Type 0 where
   pub same : IsSame start now
   pub at : StreamAt b now reached
+  pub time : KeepsOpenTime now reached
   pub lines : AreLinesOf (stream_choice start) (stream_profile start) b reached text
 
 -- As a visitor: it began somewhere, and this holds wherever it began.

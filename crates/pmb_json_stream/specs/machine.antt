@@ -2,5 +2,7 @@
 pub mod Begun
 pub mod Counts
 pub mod Inside
+pub mod OpenTime
+pub mod Front
 pub mod Knowing
 pub mod Putting

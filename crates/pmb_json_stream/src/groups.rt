@@ -1,9 +1,9 @@
-//! Groups that come at once. Their objects need the place of each START, so they are taken event by
-//! event, but for what only a refusal would need.
+//! Groups and others that come at once. Their objects need the place of each START, or of the address
+//! byte, so they are taken event by event.
 //!
 //! Its rows: `tests/rows/json_objects.txt`.
 
-ghost use Rattle.std.specs.Prelude.{◌≡◌, ◌++◌, ◌∷◌, [], ℕ, List, OnOk, false, length};
+ghost use Rattle.std.specs.Prelude.{◌≡◌, ◌++◌, ◌∷◌, [], ℕ, List, IfOk, OnOk, false, length};
 ghost use Rattle.pmb_bus.specs.declared.event.Event.{Event as BusEvent};
 ghost use Rattle.pmb_bus.specs.declared.event.Event.TheVariants.{Stop};
 ghost use Rattle.pmb_bus.specs.Event.{canonical_text, text_of};
@@ -12,7 +12,7 @@ ghost use Rattle.pmb_canonical.specs.Inside.{AreInside};
 ghost use Rattle.pmb_io.specs.Calls.{WriterTells};
 ghost use Rattle.pmb_io.specs.Engines.{PutsOut};
 ghost use Rattle.pmb_reader.specs.Reader.{Open};
-ghost use Rattle.pmb_scan.specs.Reached.{Reached, IsWhole, behind_bytes, behind_event, behind_whole};
+ghost use Rattle.pmb_scan.specs.Reached.{Reached, IsWhole, behind_whole};
 ghost use Rattle.pmb_transaction.specs.Transaction.{transaction_data};
 ghost use Rattle.pmb_json_stream.specs.declared.stream.Stream.{Stream as StreamValue};
 ghost use Rattle.pmb_json_stream.specs.Stream.{StreamStands};
@@ -23,6 +23,7 @@ use pmb_bus::Event;
 use pmb_bus::laws::{canonical_text_spells, texts_may_be_cut_between_words};
 use pmb_canonical::front_event;
 use pmb_io::{RunFault, Sink, Waiting};
+use pmb_scan::Visitor;
 use pmb_table::laws::accepted_bus;
 use pmb_transaction::Transaction;
 use pmb_transaction::laws::{packet_ends_with_stop, packets_are_bytes};
@@ -54,34 +55,33 @@ fn text_length(event: Event) -> usize
 }
 
 impl<'p> Stream<'p> {
-    /// Takes an event inside a packet, and the bytes of its word.
-    fn take_word(&mut self, event: Event, word: &[u8])
-        ensures { (start : StreamValue) (reached : Reached) (put : List ℕ) → StreamStands start self.old reached put
-            → Spells (reached.text ++ word.now) (reached.events ++ event ∷ []) → StreamStands start self.new (behind_event (behind_bytes reached word.now) event) put }
-    {
-        self.take_text(word);
-        self.take_event(event);
-        self.count_event();
-    }
-
     /// Takes the events of a packet before STOP from its canonical text, and returns what is left of it.
-    fn take_inside<'t>(&mut self, text: &'t [u8]) -> &'t [u8]
-        ensures { (start : StreamValue) (reached : Reached) (put : List ℕ) (n : ℕ) (inside : List BusEvent) → StreamStands start self.old reached put
+    fn take_inside<'t, W: Sink>(
+        &mut self,
+        text: &'t [u8],
+        waiting: &mut Waiting,
+        writer: &mut W,
+    ) -> Result<&'t [u8], RunFault>
+        ensures takes { (start : StreamValue) (reached : Reached) (put : List ℕ) (n : ℕ) (inside : List BusEvent) → StreamStands start self.old reached put
             → EndsBetween reached.text → Spells reached.text reached.events → reached.standing ≡ Open n [] → AreInside inside
-            → text.now ≡ canonical_text (inside ++ Stop ∷ []) → TakenInside start self.new reached put n inside result.now }
+            → text.now ≡ canonical_text (inside ++ Stop ∷ [])
+            → IfOk result (λ rest. PutsOut (λ more. TakenInside start self.new reached (put ++ more) n inside rest.now)
+            (W.told writer.old).held waiting.old.items (W.told writer.new).held waiting.new.items) }
+        ensures failed { WriterTells (W.told writer.old) (W.told writer.new) result }
     {
         canonical_text_spells();
         texts_may_be_cut_between_words();
         let mut rest = text;
         while let Some(event) = front_event(rest) {
             let used = text_length(event);
-            self.take_word(event, &rest[..used]);
+            self.visit_bytes(&rest[..used]);
+            self.visit_event(event, waiting, writer)?;
             rest = &rest[used..];
         }
-        rest
+        Ok(rest)
     }
 
-    /// Takes a group that came at once.
+    /// Takes a group, or an other, that came at once.
     pub(crate) fn take_group<W: Sink>(
         &mut self,
         bytes: &[u8],
@@ -99,10 +99,10 @@ impl<'p> Stream<'p> {
         accepted_bus(self.profile);
         packets_are_bytes();
         packet_ends_with_stop();
-        let stop = self.take_inside(bytes);
-        self.take_text(stop);
-        self.put_packet(transaction, waiting, writer)?;
-        self.take_packet(transaction);
-        Ok(())
+        texts_may_be_cut_between_words();
+        canonical_text_spells();
+        let stop = self.take_inside(bytes, waiting, writer)?;
+        self.visit_bytes(stop);
+        self.visit_packet(transaction, waiting, writer)
     }
 }

@@ -2,16 +2,17 @@
 //!
 //! Its rows: `tests/rows/json_objects.txt`.
 
-ghost use Rattle.std.specs.Prelude.{◌≡◌, ◌+◌, ◌<◌, ◌∷◌, [], ◌++◌, List, OnOk};
+ghost use Rattle.std.specs.Prelude.{◌≡◌, ◌+◌, ◌<◌, ◌∷◌, [], ◌++◌, List, OnOk, filter};
 ghost use Rattle.pmb_bus.specs.declared.event.Event.{Event as BusEvent};
 ghost use Rattle.pmb_bus.specs.Text.{Spells, open_word};
 ghost use Rattle.pmb_io.specs.Calls.{WriterTells};
 ghost use Rattle.pmb_io.specs.Count.{capped};
 ghost use Rattle.pmb_io.specs.Outgoing.{PutsText};
-ghost use Rattle.pmb_io.specs.Tally.{IsTallyOf, with_refusal};
+ghost use Rattle.pmb_io.specs.Tally.{with_refusal};
 ghost use Rattle.pmb_json_objects.specs.BadToken.{bad_token_object};
 ghost use Rattle.pmb_json_objects.specs.Counts.{after_bad_token, after_refusal, end_objects};
 ghost use Rattle.pmb_json_objects.specs.Object.{object_lines};
+ghost use Rattle.pmb_json_objects.specs.Packets.{other_object};
 ghost use Rattle.pmb_json_objects.specs.Refusals.{refusal_object};
 ghost use Rattle.pmb_places.specs.Places.{place_of_last_word};
 ghost use Rattle.pmb_partial_packet.specs.PartialPacket.{said_device};
@@ -21,16 +22,21 @@ ghost use Rattle.pmb_scan.specs.Scan.{Truncates, end_spans};
 ghost use Rattle.pmb_spans.specs.Spans.{moved_spans};
 ghost use Rattle.pmb_transaction.specs.Capture.{Viable};
 ghost use Rattle.pmb_json_stream.specs.Before.{Before};
-ghost use Rattle.pmb_json_stream.specs.Spans.{after_spans, event_place, span_objects, transactions_in};
-ghost use Rattle.pmb_json_stream.specs.Stream.{IsSame, StreamAt, StreamKnows, stream_choice, stream_profile, stream_tally};
+ghost use Rattle.pmb_json_stream.specs.Choice.{gives_others};
+ghost use Rattle.pmb_json_stream.specs.Others.{is_untold};
+ghost use Rattle.pmb_json_stream.specs.Spans.{CountsTally, IsNoneOutside, after_spans, event_place, event_time, span_objects, transactions_in};
+ghost use Rattle.pmb_json_stream.specs.Stream.{IsSame, StreamAt, StreamKnows, stream_choice, stream_profile, stream_tally, stream_time};
 ghost use Rattle.pmb_json_stream.specs.machine.Counts.{counts_of};
-ghost use Rattle.pmb_json_stream.specs.machine.Knowing.{stream_seen};
+ghost use Rattle.pmb_json_stream.specs.machine.Knowing.{KeepsTimes, stream_seen};
 ghost use Rattle.pmb_json_stream.specs.machine.Putting.{PutsObjects};
 
+use crate::front::Front;
 use crate::stream::Stream;
 use pmb_bus::Event;
 use pmb_io::{RunFault, Sink, Waiting, make_room};
-use pmb_json_objects::{OBJECT, bad_token_line, device_line, end_line, is_wanted, refusal_line};
+use pmb_json_objects::{
+    OBJECT, bad_token_line, device_line, end_line, is_wanted, other_line, refusal_line,
+};
 use pmb_places::Place;
 use pmb_places::laws::each_word_has_a_place;
 use pmb_reader::Refusal;
@@ -48,15 +54,27 @@ impl<'p> Stream<'p> {
     ) -> Result<(), RunFault>
         ensures puts { (b : Before) → StreamKnows b self.old
             → OnOk result (PutsText (W.told writer.old).held waiting.old.items (W.told writer.new).held waiting.new.items
-            (object_lines (stream_choice self.old).devices (bad_token_object (capped b.n) (place_of_last_word b.read) (open_word b.read) ∷ []))) }
+            (object_lines (stream_choice self.old).devices (bad_token_object (record { at = capped b.n; place = place_of_last_word b.read; time = stream_time self.old }) (open_word b.read) ∷ []))) }
         ensures knows { (b : Before) → StreamKnows b self.old → OnOk result (StreamKnows (record b { counts = after_bad_token b.counts }) self.new) }
         ensures same { IsSame self.old self.new }
         ensures failed { WriterTells (W.told writer.old) (W.told writer.new) result }
     {
-        make_room(waiting, OBJECT, writer)?;
-        bad_token_line(waiting, self.count, self.places.word(), self.word.bytes());
+        self.put_word(waiting, writer)?;
         self.counts.count_bad_token();
         self.tally.count_refusal();
+        Ok(())
+    }
+
+    /// Puts out the object of the word under way.
+    fn put_word<W: Sink>(&self, waiting: &mut Waiting, writer: &mut W) -> Result<(), RunFault>
+        ensures puts { (b : Before) → StreamKnows b self.now
+            → OnOk result (PutsText (W.told writer.old).held waiting.old.items (W.told writer.new).held waiting.new.items
+            (object_lines (stream_choice self.now).devices (bad_token_object (record { at = capped b.n; place = place_of_last_word b.read; time = stream_time self.now }) (open_word b.read) ∷ []))) }
+        ensures failed { WriterTells (W.told writer.old) (W.told writer.new) result }
+    {
+        make_room(waiting, OBJECT, writer)?;
+        let head = self.head_at(self.count, self.places.word());
+        bad_token_line(waiting, head, self.word.bytes());
         Ok(())
     }
 
@@ -71,14 +89,14 @@ impl<'p> Stream<'p> {
         waiting: &mut Waiting,
         writer: &mut W,
     ) -> Result<(), RunFault>
-        ensures puts { (b : Before) (reached : Reached) → StreamAt b self.old reached → Spells reached.text reached.events → Truncates reached end
+        ensures puts { (b : Before) (reached : Reached) → StreamAt b self.old reached → Spells reached.text reached.events → Truncates reached end → IsNoneOutside reached end
             → OnOk result (PutsText (W.told writer.old).held waiting.old.items (W.told writer.new).held waiting.new.items
             (object_lines (stream_choice self.old).devices
-            (span_objects (stream_choice self.old) (stream_profile self.old) (event_place b.read b.n reached.text) (b.ts ++ transactions_in reached.spans) (moved_spans b.n (end_spans reached.standing end))
-            ++ end_objects (after_spans b.counts (reached.spans ++ end_spans reached.standing end))))) }
-        ensures tally { (b : Before) (reached : Reached) → StreamAt b self.old reached → Truncates reached end
-            → OnOk result (IsTallyOf (after_spans b.counts (reached.spans ++ end_spans reached.standing end)).packets
-            ((after_spans b.counts (reached.spans ++ end_spans reached.standing end)).refusals + (after_spans b.counts (reached.spans ++ end_spans reached.standing end)).bad_tokens) (stream_tally self.new)) }
+            (span_objects (stream_choice self.old) (stream_profile self.old) (event_place b.read b.n reached.text) (event_time b.n reached.text) (b.ts ++ transactions_in reached.spans)
+            (moved_spans b.n (filter (is_untold (stream_choice self.old).ignored) (end_spans reached.standing end)))
+            ++ end_objects (stream_profile self.old) (gives_others (stream_choice self.old)) (after_spans (stream_choice self.old).ignored b.counts (reached.spans ++ end_spans reached.standing end))))) }
+        ensures tally { (b : Before) (reached : Reached) → StreamAt b self.old reached → Truncates reached end → IsNoneOutside reached end
+            → OnOk result (CountsTally (after_spans (stream_choice self.old).ignored b.counts (reached.spans ++ end_spans reached.standing end)) (stream_tally self.new)) }
         ensures same { IsSame self.old self.new }
         ensures failed { WriterTells (W.told writer.old) (W.told writer.new) result }
     {
@@ -86,6 +104,10 @@ impl<'p> Stream<'p> {
         match end {
             None => self.put_counts(waiting, writer),
             Some(refusal) => {
+                // The object of an other is out since its address byte.
+                if let Front::Other = self.front {
+                    return self.put_counts(waiting, writer);
+                }
                 self.put_refusal(None, self.places.end(), refusal, waiting, writer)?;
                 self.count_refusal();
                 self.put_counts(waiting, writer)
@@ -100,14 +122,14 @@ impl<'p> Stream<'p> {
     /// `Write` where the writer failed.
     pub fn put_counts<W: Sink>(&self, waiting: &mut Waiting, writer: &mut W) -> Result<(), RunFault>
         ensures puts { (b : Before) → StreamKnows b self.now
-            → OnOk result (PutsText (W.told writer.old).held waiting.old.items (W.told writer.new).held waiting.new.items (object_lines (stream_choice self.now).devices (end_objects b.counts))) }
+            → OnOk result (PutsText (W.told writer.old).held waiting.old.items (W.told writer.new).held waiting.new.items (object_lines (stream_choice self.now).devices (end_objects (stream_profile self.now) (gives_others (stream_choice self.now)) b.counts))) }
         ensures failed { WriterTells (W.told writer.old) (W.told writer.new) result }
     {
         for addr in 0..128u8 {
             self.put_device(addr, waiting, writer)?;
         }
         make_room(waiting, OBJECT, writer)?;
-        end_line(waiting, &self.counts);
+        end_line(waiting, self.choice.gives_others(), &self.counts);
         Ok(())
     }
 
@@ -121,7 +143,7 @@ impl<'p> Stream<'p> {
         requires { addr < 128 }
         ensures puts { (b : Before) → StreamKnows b self.now
             → OnOk result (PutsText (W.told writer.old).held waiting.old.items (W.told writer.new).held waiting.new.items
-            (object_lines (stream_choice self.now).devices (counts_of b.counts.of_device (addr ∷ [])))) }
+            (object_lines (stream_choice self.now).devices (counts_of (stream_profile self.now) (gives_others (stream_choice self.now)) b.counts.of_device (addr ∷ [])))) }
         ensures failed { WriterTells (W.told writer.old) (W.told writer.new) result }
     {
         let Some(device) = self.counts.device(addr) else {
@@ -134,7 +156,13 @@ impl<'p> Stream<'p> {
             return Ok(());
         }
         make_room(waiting, OBJECT, writer)?;
-        device_line(waiting, addr, device);
+        device_line(
+            waiting,
+            self.profile,
+            self.choice.gives_others(),
+            addr,
+            device,
+        );
         Ok(())
     }
 
@@ -148,7 +176,7 @@ impl<'p> Stream<'p> {
         writer: &mut W,
     ) -> Result<(), RunFault>
         ensures puts { (some : Before) (front : List BusEvent) → StreamKnows some self.now → Viable (stream_profile self.now) front → SaidStandsAt self.now.said front
-            → OnOk result (PutsObjects self.now (λ b. refusal_object (stream_seen self.now b) (capped b.n) place front event refusal.reason refusal.expected ∷ [])
+            → OnOk result (PutsObjects self.now (λ b. refusal_object (stream_seen self.now b) (record { at = capped b.n; place = place; time = stream_time self.now }) front event refusal.reason refusal.expected ∷ [])
             (W.told writer.old).held waiting.old.items (W.told writer.new).held waiting.new.items) }
         ensures failed { WriterTells (W.told writer.old) (W.told writer.new) result }
     {
@@ -159,13 +187,33 @@ impl<'p> Stream<'p> {
         refusal_line(
             waiting,
             &self.seen(),
-            self.count,
-            place,
+            self.head_at(self.count, place),
             &self.said,
             event,
             refusal.reason,
             refusal.expected,
         );
+        Ok(())
+    }
+
+    /// Puts out the object of an other, if it is wanted, whose address byte is the event that comes next
+    /// and stands there.
+    pub(crate) fn put_other<W: Sink>(
+        &self,
+        addr: u8,
+        place: Place,
+        waiting: &mut Waiting,
+        writer: &mut W,
+    ) -> Result<(), RunFault>
+        ensures puts { (some : Before) → StreamKnows some self.now → OnOk result (PutsObjects self.now (λ b. other_object (record { at = capped b.n; place = place; time = stream_time self.now }) addr ∷ [])
+            (W.told writer.old).held waiting.old.items (W.told writer.new).held waiting.new.items) }
+        ensures failed { WriterTells (W.told writer.old) (W.told writer.new) result }
+    {
+        if !is_wanted(self.choice.devices, Some(addr)) {
+            return Ok(());
+        }
+        make_room(waiting, OBJECT, writer)?;
+        other_line(waiting, self.head_at(self.count, place), addr);
         Ok(())
     }
 
@@ -175,6 +223,7 @@ impl<'p> Stream<'p> {
             → StreamKnows (record b { counts = after_refusal b.counts (said_device front) }) self.new }
         ensures tally { self.new.tally ≡ with_refusal self.old.tally }
         ensures same { IsSame self.old self.new }
+        ensures times { KeepsTimes self.old self.new }
     {
         self.counts.count_refusal(self.said.device());
         self.tally.count_refusal();

@@ -6,7 +6,7 @@
 //! and how.
 //!
 //! ```rust
-//! let choice = Choice { digits: Digits::default(), start: Start::AllKnown, devices: &[] };
+//! let choice = Choice { digits: Digits::default(), start: Start::AllKnown, devices: &[], ignored: None };
 //! let mut stream = Stream::new(&profile, choice);
 //! let mut scan = Scan::new(&profile);
 //! let text = b"S b0 A 03 A P ".as_slice();
@@ -18,11 +18,15 @@
 #![tactic(auto)]
 
 mod choice;
+mod front;
 mod groups;
 mod last;
+pub mod laws;
+mod open_time;
 mod packets;
 mod stream;
 mod visits;
 
 pub use choice::Choice;
+pub use pmb_table::Ignored;
 pub use stream::Stream;

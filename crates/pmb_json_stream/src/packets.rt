@@ -7,8 +7,8 @@ ghost use Rattle.pmb_io.specs.Calls.{WriterTells};
 ghost use Rattle.pmb_json_objects.specs.Packets.{alert_object, call_object, no_alert_object, read_object, refused_object};
 ghost use Rattle.pmb_transaction.specs.Transaction.{part_data, transaction_data};
 ghost use Rattle.pmb_json_stream.specs.Before.{Before};
-ghost use Rattle.pmb_json_stream.specs.Stream.{StreamKnows};
-ghost use Rattle.pmb_json_stream.specs.machine.Begun.{kept_objects, kept_writes};
+ghost use Rattle.pmb_json_stream.specs.Stream.{StreamKnows, stream_profile, stream_time};
+ghost use Rattle.pmb_json_stream.specs.machine.Begun.{begun_head, kept_objects, kept_writes};
 ghost use Rattle.pmb_json_stream.specs.machine.Knowing.{stream_seen};
 ghost use Rattle.pmb_json_stream.specs.machine.Putting.{PutsObjects};
 
@@ -31,7 +31,7 @@ impl<'p> Stream<'p> {
         waiting: &mut Waiting,
         writer: &mut W,
     ) -> Result<(), RunFault>
-        ensures puts { (some : Before) → StreamKnows some self.now → OnOk result (PutsObjects self.now (λ b. kept_objects (stream_seen self.now b) self.now.begun.items (transaction_data transaction.now)) (W.told writer.old).held waiting.old.items (W.told writer.new).held waiting.new.items) }
+        ensures puts { (some : Before) → StreamKnows some self.now → OnOk result (PutsObjects self.now (λ b. kept_objects (stream_seen self.now b) (stream_time self.now) self.now.begun.items (transaction_data transaction.now)) (W.told writer.old).held waiting.old.items (W.told writer.new).held waiting.new.items) }
         ensures failed { WriterTells (W.told writer.old) (W.told writer.new) result }
     {
         match transaction {
@@ -99,7 +99,7 @@ impl<'p> Stream<'p> {
         writer: &mut W,
     ) -> Result<(), RunFault>
         requires few { length parts.now ≤ 16 }
-        ensures puts { (some : Before) → StreamKnows some self.now → OnOk result (PutsObjects self.now (λ b. kept_writes (stream_seen self.now b) 1 count self.now.begun.items (map part_data parts.now)) (W.told writer.old).held waiting.old.items (W.told writer.new).held waiting.new.items) }
+        ensures puts { (some : Before) → StreamKnows some self.now → OnOk result (PutsObjects self.now (λ b. kept_writes (stream_seen self.now b) (stream_time self.now) 1 count self.now.begun.items (map part_data parts.now)) (W.told writer.old).held waiting.old.items (W.told writer.new).held waiting.new.items) }
         ensures failed { WriterTells (W.told writer.old) (W.told writer.new) result }
     {
         for index in 0..parts.len() {
@@ -118,7 +118,7 @@ impl<'p> Stream<'p> {
         writer: &mut W,
     ) -> Result<(), RunFault>
         requires few { index < 16 }
-        ensures puts { (some : Before) → StreamKnows some self.now → OnOk result (PutsObjects self.now (λ b. kept_writes (stream_seen self.now b) (index + 1) count (take 1 (drop index self.now.begun.items)) (part_data part.now ∷ [])) (W.told writer.old).held waiting.old.items (W.told writer.new).held waiting.new.items) }
+        ensures puts { (some : Before) → StreamKnows some self.now → OnOk result (PutsObjects self.now (λ b. kept_writes (stream_seen self.now b) (stream_time self.now) (index + 1) count (take 1 (drop index self.now.begun.items)) (part_data part.now ∷ [])) (W.told writer.old).held waiting.old.items (W.told writer.new).held waiting.new.items) }
         ensures failed { WriterTells (W.told writer.old) (W.told writer.new) result }
     {
         let Some(begun) = self.begun_at(index) else {
@@ -131,8 +131,7 @@ impl<'p> Stream<'p> {
         write_line(
             waiting,
             &self.seen(),
-            begun.at,
-            begun.place,
+            self.head(begun),
             index as u64 + 1,
             count,
             part,
@@ -152,7 +151,7 @@ impl<'p> Stream<'p> {
     ) -> Result<(), RunFault>
         requires reply { length reply.now ≤ 255 }
         ensures puts { (some : Before) → StreamKnows some self.now → OnOk result (PutsObjects self.now (λ b.
-            map (λ first. read_object (stream_seen self.now b) first.at first.place (record { addr = addr; code = code; reply = reply.now; pec = pec })) (take 1 self.now.begun.items)) (W.told writer.old).held waiting.old.items (W.told writer.new).held waiting.new.items) }
+            map (λ first. read_object (stream_seen self.now b) (begun_head (stream_time self.now) first) (record { addr = addr; code = code; reply = reply.now; pec = pec })) (take 1 self.now.begun.items)) (W.told writer.old).held waiting.old.items (W.told writer.new).held waiting.new.items) }
         ensures failed { WriterTells (W.told writer.old) (W.told writer.new) result }
     {
         let Some(begun) = self.begun_at(0) else {
@@ -165,8 +164,7 @@ impl<'p> Stream<'p> {
         read_line(
             waiting,
             &self.seen(),
-            begun.at,
-            begun.place,
+            self.head(begun),
             addr,
             code,
             reply,
@@ -189,7 +187,7 @@ impl<'p> Stream<'p> {
         requires sent { length sent.now ≤ 255 }
         requires reply { length reply.now ≤ 255 }
         ensures puts { (some : Before) → StreamKnows some self.now → OnOk result (PutsObjects self.now (λ b.
-            map (λ first. call_object (stream_seen self.now b) first.at first.place (record { addr = addr; code = code; bytes = sent.now; reply = reply.now; pec = pec })) (take 1 self.now.begun.items)) (W.told writer.old).held waiting.old.items (W.told writer.new).held waiting.new.items) }
+            map (λ first. call_object (stream_seen self.now b) (begun_head (stream_time self.now) first) (record { addr = addr; code = code; bytes = sent.now; reply = reply.now; pec = pec })) (take 1 self.now.begun.items)) (W.told writer.old).held waiting.old.items (W.told writer.new).held waiting.new.items) }
         ensures failed { WriterTells (W.told writer.old) (W.told writer.new) result }
     {
         let Some(begun) = self.begun_at(0) else {
@@ -202,8 +200,7 @@ impl<'p> Stream<'p> {
         call_line(
             waiting,
             &self.seen(),
-            begun.at,
-            begun.place,
+            self.head(begun),
             addr,
             code,
             sent,
@@ -226,7 +223,7 @@ impl<'p> Stream<'p> {
         requires few { parts < 16 }
         requires sent { length sent.now ≤ 258 }
         ensures puts { (some : Before) → StreamKnows some self.now → OnOk result (PutsObjects self.now (λ b.
-            map (λ leg. refused_object (stream_seen self.now b) leg.at leg.place (parts + 1) addr sent.now at_read) (take 1 (drop parts self.now.begun.items))) (W.told writer.old).held waiting.old.items (W.told writer.new).held waiting.new.items) }
+            map (λ leg. refused_object (stream_seen self.now b) (begun_head (stream_time self.now) leg) (parts + 1) addr sent.now at_read) (take 1 (drop parts self.now.begun.items))) (W.told writer.old).held waiting.old.items (W.told writer.new).held waiting.new.items) }
         ensures failed { WriterTells (W.told writer.old) (W.told writer.new) result }
     {
         let Some(begun) = self.begun_at(parts) else {
@@ -239,8 +236,7 @@ impl<'p> Stream<'p> {
         refused_line(
             waiting,
             &self.seen(),
-            begun.at,
-            begun.place,
+            self.head(begun),
             parts as u64 + 1,
             addr,
             sent,
@@ -258,7 +254,7 @@ impl<'p> Stream<'p> {
         writer: &mut W,
     ) -> Result<(), RunFault>
         ensures puts { (some : Before) → StreamKnows some self.now → OnOk result (PutsObjects self.now (λ b.
-            map (λ first. alert_object first.at first.place (record { byte = byte; pec = pec })) (take 1 self.now.begun.items)) (W.told writer.old).held waiting.old.items (W.told writer.new).held waiting.new.items) }
+            map (λ first. alert_object (stream_profile self.now) (begun_head (stream_time self.now) first) (record { byte = byte; pec = pec })) (take 1 self.now.begun.items)) (W.told writer.old).held waiting.old.items (W.told writer.new).held waiting.new.items) }
         ensures failed { WriterTells (W.told writer.old) (W.told writer.new) result }
     {
         let Some(begun) = self.begun_at(0) else {
@@ -268,21 +264,21 @@ impl<'p> Stream<'p> {
             return Ok(());
         }
         make_room(waiting, OBJECT, writer)?;
-        alert_line(waiting, begun.at, begun.place, byte, pec);
+        alert_line(waiting, self.profile, self.head(begun), byte, pec);
         Ok(())
     }
 
     /// Puts out the object of an alert with nobody there.
     fn put_no_alert<W: Sink>(&self, waiting: &mut Waiting, writer: &mut W) -> Result<(), RunFault>
         ensures puts { (some : Before) → StreamKnows some self.now → OnOk result (PutsObjects self.now (λ b.
-            map (λ first. no_alert_object first.at first.place) (take 1 self.now.begun.items)) (W.told writer.old).held waiting.old.items (W.told writer.new).held waiting.new.items) }
+            map (λ first. no_alert_object (begun_head (stream_time self.now) first)) (take 1 self.now.begun.items)) (W.told writer.old).held waiting.old.items (W.told writer.new).held waiting.new.items) }
         ensures failed { WriterTells (W.told writer.old) (W.told writer.new) result }
     {
         let Some(begun) = self.begun_at(0) else {
             return Ok(());
         };
         make_room(waiting, OBJECT, writer)?;
-        no_alert_line(waiting, begun.at, begun.place);
+        no_alert_line(waiting, self.head(begun));
         Ok(())
     }
 }

@@ -5,22 +5,28 @@
 //!
 //! Its rows: `tests/rows/json_objects.txt`.
 
-ghost use Rattle.std.specs.Prelude.{◌≡◌, ◌+◌, ◌≤◌, length, take};
+ghost use Rattle.std.specs.Prelude.{◌≡◌, ◌+◌, ◌≤◌, ◌++◌, ℕ, List, length, take};
 ghost use Rattle.pmb_bus.specs.Text.{EndsBetween, open_word};
 ghost use Rattle.pmb_io.specs.Tally.{IsTallyOf};
+ghost use Rattle.pmb_json_objects.specs.Head.{head_of};
 ghost use Rattle.pmb_json_objects.specs.Sees.{Sees};
 ghost use Rattle.pmb_json_stream.specs.Before.{Before, at_first, with_bytes};
 ghost use Rattle.pmb_json_stream.specs.Choice.{choice_data};
-ghost use Rattle.pmb_json_stream.specs.Stream.{IsSame, StreamBegins, StreamKnows, stream_choice, stream_profile, stream_tally};
-ghost use Rattle.pmb_json_stream.specs.machine.Knowing.{IsCleared, stream_seen};
+ghost use Rattle.pmb_json_stream.specs.Stream.{IsSame, StreamBegins, StreamKnows, stream_choice, stream_profile, stream_tally, stream_time};
+ghost use Rattle.pmb_json_stream.specs.machine.Begun.{begun_head};
+ghost use Rattle.pmb_json_stream.specs.machine.Knowing.{IsCleared, KeepsSame, KeepsTimes, stream_seen};
+ghost use Rattle.pmb_times.specs.Times.{TimesStandAt};
 
 use crate::choice::Choice;
+use crate::front::Front;
+use crate::open_time::OpenTime;
 use arrayvec::ArrayVec;
 use pmb_io::Tally;
-use pmb_json_objects::{Counts, Seen};
+use pmb_json_objects::{Counts, Head, Seen};
 use pmb_partial_packet::PartialPacket;
 use pmb_places::{OpenWord, Place, Places};
 use pmb_table::Profile;
+use pmb_times::Times;
 use pmb_unknown_start::Late;
 
 /// How many STARTs a packet has at most: those of 16 parts, and one more where it is refused.
@@ -55,9 +61,14 @@ pub struct Stream<'p> {
     pub(crate) count: u64,
     pub(crate) places: Places,
     pub(crate) word: OpenWord,
+    /// The times of the words since reading began, and that of what is under way.
+    pub(crate) times: Times,
+    pub(crate) time: OpenTime,
     /// Device, bytes and error code of the unfinished packet, and its STARTs.
     pub(crate) said: PartialPacket,
     pub(crate) begun: ArrayVec<Begun, 17>,
+    /// How that packet begins.
+    pub(crate) front: Front,
     /// Whether events are passed over, after a refusal.
     pub(crate) passing: bool,
 }
@@ -73,6 +84,7 @@ impl<'p> Stream<'p> {
             digits,
             start,
             devices,
+            ignored,
         } = choice;
         Stream {
             profile,
@@ -80,6 +92,7 @@ impl<'p> Stream<'p> {
                 digits,
                 start,
                 devices,
+                ignored,
             },
             late: Late::new(profile, start),
             counts: Counts::new(),
@@ -87,8 +100,11 @@ impl<'p> Stream<'p> {
             count: 0,
             places: Places::new(),
             word: OpenWord::new(),
+            times: Times::new(),
+            time: OpenTime::new(),
             said: PartialPacket::new(),
             begun: ArrayVec::new(),
+            front: Front::Nothing,
             passing: false,
         }
     }
@@ -99,6 +115,25 @@ impl<'p> Stream<'p> {
         ensures told { result ≡ stream_tally self.now }
     {
         self.tally
+    }
+
+    /// Where an object begins, which begins with a START of the packet under way.
+    pub(crate) fn head(&self, begun: Begun) -> Head<'_>
+        ensures { head_of result ≡ begun_head (stream_time self.now) begun }
+    {
+        self.head_at(begun.at, begun.place)
+    }
+
+    /// Where an object begins of what is under way, by the number of its first event and the place
+    /// of that one's word.
+    pub(crate) fn head_at(&self, at: u64, place: Place) -> Head<'_>
+        ensures { head_of result ≡ record { at = at; place = place; time = stream_time self.now } }
+    {
+        Head {
+            at,
+            place,
+            time: self.time.time(),
+        }
     }
 
     /// How many bytes of the word under way are kept, at most 32.
@@ -114,21 +149,26 @@ impl<'p> Stream<'p> {
     pub fn take_text(&mut self, bytes: &[u8])
         ensures knows { (b : Before) → StreamKnows b self.old → StreamKnows (with_bytes b bytes.now) self.new }
         ensures same { IsSame self.old self.new }
-        ensures said { self.new.said ≡ self.old.said }
-        ensures begun { self.new.begun ≡ self.old.begun }
-        ensures passing { self.new.passing ≡ self.old.passing }
+        ensures packet { KeepsSame self.old self.new }
+        ensures times { (text : List ℕ) → TimesStandAt self.old.times text → TimesStandAt self.new.times (text ++ bytes.now) }
+        ensures kept { self.new.time ≡ self.old.time }
+        ensures time { stream_time self.new ≡ stream_time self.old }
     {
         self.places.take(bytes);
         self.word.take(bytes);
+        self.times.take(bytes);
     }
 
-    /// Begins anew between two words: the packet under way is dropped.
+    /// Begins anew between two words, at the start of a line: the packet under way is dropped, and
+    /// no time is known.
     pub fn begin_anew(&mut self)
         ensures begins { (b : Before) → StreamKnows b self.old → EndsBetween b.read → StreamBegins b self.new }
         ensures same { IsSame self.old self.new }
     {
         self.clear();
         self.passing = false;
+        self.times = Times::new();
+        self.time = OpenTime::new();
     }
 
     /// Forgets the packet under way.
@@ -137,9 +177,11 @@ impl<'p> Stream<'p> {
         ensures knows { (b : Before) → StreamKnows b self.old → StreamKnows b self.new }
         ensures same { IsSame self.old self.new }
         ensures passing { self.new.passing ≡ self.old.passing }
+        ensures times { KeepsTimes self.old self.new }
     {
         self.said.begin();
         self.begun.clear();
+        self.front = Front::Nothing;
     }
 
     /// What is known where the next packet begins.

@@ -1,11 +1,11 @@
 -- What a table of a profile says of one command.
-use Rattle.std.specs.Prelude.{ℕ, ℤ, pos, negsuc, Bool, true, false, not, ◌&&◌, ◌||◌, is_some, Option, Some, None}
+use Rattle.std.specs.Prelude.{ℕ, ℤ, pos, negsuc, Bool, true, false, not, ◌&&◌, ◌||◌, ◌%◌, is_some, Option, Some, None}
 use Rattle.std.specs.Prelude.{Result, Ok, Err, List, [], ◌∷◌, codes, length, nat_eq, int_le}
 use Rattle.std.specs.List.{list_any}
 use Rattle.std.specs.Option.{option_and_then}
 use Rattle.std.specs.Ordering.{int_eq}
 use Rattle.std.specs.Result.{result_ok}
-use Rattle.toml.specs.Data.{Data, Members, as_str, as_integer, as_bool, as_table, get_member}
+use Rattle.toml.specs.Data.{Data, Items, Members, as_array, as_str, as_integer, as_bool, as_table, get_member}
 use Rattle.hex.specs.Hex.{decode_of}
 use Rattle.pmb_coefficients.specs.Coefficients.{Coefficients}
 use Rattle.pmb_keys.specs.declared.fault.FaultKind.{FaultKind}
@@ -18,11 +18,11 @@ use Rattle.pmb_command.specs.declared.entry.Kind.TheVariants.{Raw, Linear11, Lin
 use Rattle.pmb_command.specs.declared.entry.Kind.TheVariants.{Status}
 use Rattle.pmb_command.specs.Entry.{EntryParts}
 use Rattle.pmb_command.specs.Commands.{standard_entry, code_of_name}
-use Rattle.pmb_command.specs.Parts.{CommandParts}
+use Rattle.pmb_command.specs.Parts.{CommandParts, InitialParts, Same, Each}
 use Rattle.pmb_command.specs.Names.{code_name, is_name}
 use Rattle.pmb_command.specs.Fitting.{register_form, is_exponent, is_length, is_fitting}
 use Rattle.pmb_keys.specs.Rules.{bind, or_fault, unless, named, natural_within, only, typed, required, optional}
-use Rattle.pmb_keys.specs.Rules.{defaulted}
+use Rattle.pmb_keys.specs.Rules.{defaulted, each_of, item_count}
 
 -- the keys of a command's table
 abbrev pub command_key_names : List (List ℕ)
@@ -179,35 +179,88 @@ entry_rule ms =
     bind (defaulted (typed as_bool) base.paged (codes "paged") ms) (λ paged.
     Ok (record { code = base.code; name = base.name; shape = shape; kind = kind; paged = paged })))))))
 
--- the text of `initial`
-abbrev pub initial_text : Members → Result (Option (List ℕ)) FaultKind
-initial_text ms = optional (typed as_str) (codes "initial") ms
+-- a value, which may be an array, has the type of `initial`: a string, or an array of strings
+abbrev pub text_type : Data → Option Items → Result Unit FaultKind
+text_type d None = bind (typed as_str d) (λ _. Ok tt)
+text_type d (Some items) = bind (each_of (typed as_str) items) (λ _. Ok tt)
+
+-- the value of `initial`; its type is looked at first
+abbrev pub initial_value : Members → Result (Option Data) FaultKind
+initial_value ms = optional (λ d. bind (text_type d (as_array d)) (λ _. Ok d)) (codes "initial") ms
 
 -- the bytes that a text of hexadecimal digits spells
 abbrev pub hex_bytes : List ℕ → Option (List ℕ)
 hex_bytes text = result_ok (decode_of text)
 
--- the bytes that a register begins with; PAGE begins as 0, and VOUT_MODE as the device's key says
+-- a command has a register, and says what it begins with; PAGE begins as 0, and VOUT_MODE as the device's key says
+abbrev pub register_check : EntryParts → Result Unit FaultKind
+register_check e =
+    bind (unless faults.BadInitial (not (nat_eq e.code 0x00 || nat_eq e.code 0x20))) (λ _.
+    unless faults.BadInitial (is_some (register_form e.shape)))
+
+-- the bytes that a register begins with on a page
 abbrev pub initial_bytes : EntryParts → List ℕ → Result (List ℕ) FaultKind
 initial_bytes e text =
-    bind (unless faults.BadInitial (not (nat_eq e.code 0x00 || nat_eq e.code 0x20))) (λ _.
-    bind (unless faults.BadInitial (is_some (register_form e.shape))) (λ _.
+    bind (register_check e) (λ _.
     bind (or_fault faults.BadInitial (hex_bytes text)) (λ bytes.
     bind (unless faults.BadInitial (is_length (register_form e.shape) (length bytes))) (λ _.
-    Ok bytes))))
+    Ok bytes)))
 
-abbrev pub initial_of : EntryParts → Option (List ℕ) → Result (Option (List ℕ)) FaultKind
-initial_of e None = Ok None
-initial_of e (Some text) = bind (initial_bytes e text) (λ bytes. Ok (Some bytes))
+-- those of a value, which is a string
+abbrev pub bytes_rule : EntryParts → Data → Result (List ℕ) FaultKind
+bytes_rule e d = bind (typed as_str d) (initial_bytes e)
 
--- A command of a device in which earlier tables have these codes: the keys, then CodeTwice, then
--- BadForm, then BadInitial.
-abbrev pub command_of : List ℕ → Data → Result CommandParts FaultKind
-command_of taken d =
+-- a command has a value for each page, and there is an item for each
+abbrev pub items_check : EntryParts → ℕ → Items → Result Unit FaultKind
+items_check e pages items =
+    bind (unless faults.BadInitial e.paged) (λ _. unless faults.BadInitial (nat_eq (item_count items) pages))
+
+-- items of such strings, one for each page of a command that has a value for each
+abbrev pub items_rule : EntryParts → ℕ → Items → Result (List (List ℕ)) FaultKind
+items_rule e pages items = bind (items_check e pages items) (λ _. each_of (bytes_rule e) items)
+
+-- what a register begins with, by a value that may be an array
+abbrev pub initial_rule : EntryParts → ℕ → Data → Option Items → Result InitialParts FaultKind
+initial_rule e pages d None = bind (bytes_rule e d) (λ bytes. Ok (Same bytes))
+initial_rule e pages d (Some items) = bind (items_rule e pages items) (λ each. Ok (Each each))
+
+abbrev pub initial_of : EntryParts → ℕ → Option Data → Result (Option InitialParts) FaultKind
+initial_of e pages None = Ok None
+initial_of e pages (Some d) = bind (initial_rule e pages d (as_array d)) (λ initial. Ok (Some initial))
+
+-- A command of a device with so many pages, in which earlier tables have these codes: the keys, then
+-- CodeTwice, then BadForm, then BadInitial.
+abbrev pub command_of : ℕ → List ℕ → Data → Result CommandParts FaultKind
+command_of pages taken d =
     bind (typed as_table d) (λ ms.
     bind (entry_rule ms) (λ entry.
-    bind (initial_text ms) (λ text.
+    bind (initial_value ms) (λ value.
     bind (unless faults.CodeTwice (not (list_any (nat_eq entry.code) taken))) (λ _.
     bind (unless faults.BadForm (is_fitting entry)) (λ _.
-    bind (initial_of entry text) (λ initial.
+    bind (initial_of entry pages value) (λ initial.
     Ok (record { entry = entry; initial = initial })))))))
+
+-- What of `initial` is refused without memory: a string for a command that says nothing of a register, or
+-- of an odd number of digits, and an array for a command without a value for each page, or with another
+-- number of items than there are pages.
+abbrev pub text_check : EntryParts → List ℕ → Result Unit FaultKind
+text_check e text =
+    bind (register_check e) (λ _. unless faults.BadInitial (not (nat_eq (length text % 2) 1)))
+
+abbrev pub value_check : EntryParts → ℕ → Data → Option Items → Result Unit FaultKind
+value_check e pages d None = bind (typed as_str d) (text_check e)
+value_check e pages d (Some items) = items_check e pages items
+
+abbrev pub initial_check : EntryParts → ℕ → Option Data → Result Unit FaultKind
+initial_check e pages None = Ok tt
+initial_check e pages (Some d) = value_check e pages d (as_array d)
+
+-- What of a command is refused without memory: all but what only the bytes of `initial` tell.
+abbrev pub command_check : ℕ → List ℕ → Data → Result Unit FaultKind
+command_check pages taken d =
+    bind (typed as_table d) (λ ms.
+    bind (entry_rule ms) (λ entry.
+    bind (initial_value ms) (λ value.
+    bind (unless faults.CodeTwice (not (list_any (nat_eq entry.code) taken))) (λ _.
+    bind (unless faults.BadForm (is_fitting entry)) (λ _.
+    initial_check entry pages value)))))

@@ -1,36 +1,57 @@
 -- What a table of a profile says of one device, apart from its commands.
-use Rattle.std.specs.Prelude.{ℕ, Bool, true, not, Option, Result, Ok, List, [], ◌∷◌, codes, nat_eq}
+use Rattle.std.specs.Prelude.{ℕ, Bool, true, not, Option, Some, None, Result, Ok, List, [], ◌∷◌, codes, nat_eq}
+use Rattle.std.specs.Prelude.{replicate}
 use Rattle.std.specs.List.{list_any}
-use Rattle.toml.specs.Data.{Data, Items, no_items, Members, as_integer, as_bool, as_array, as_table}
+use Rattle.toml.specs.Data.{Data, Items, no_items, Members, as_integer, as_bool, as_array, as_str, as_table}
 use Rattle.pmb_coefficients.specs.Coefficients.{Coefficients}
 use Rattle.pmb_keys.specs.declared.fault.FaultKind.{FaultKind}
 use Rattle.pmb_keys.specs.declared.fault.FaultKind.TheVariants as faults
+use Rattle.pmb_command.specs.Names.{is_device_name}
 use Rattle.pmb_command.specs.declared.pec_mode.PecMode.{PecMode}
 use Rattle.pmb_command.specs.declared.pec_mode.PecMode.TheVariants.{Off, On, Optional}
 use Rattle.pmb_keys.specs.CommandRules.{byte_rule, word_rule, coefficients}
 use Rattle.pmb_keys.specs.Rules.{bind, or_fault, unless, natural_within, only, typed, required, optional, defaulted}
+use Rattle.pmb_keys.specs.Rules.{each_of, item_count}
 
 -- the keys of a device's table
 abbrev pub device_key_names : List (List ℕ)
 device_key_names =
     codes "address" ∷ codes "pec" ∷ codes "pages" ∷ codes "vout_mode" ∷ codes "standard" ∷ codes "vout_direct"
-    ∷ codes "command" ∷ []
+    ∷ codes "command"
+    ∷ codes "name" ∷ []
 
 -- 08h to 77h without 0ch (SMBus 3.0 appendix C: the others are reserved, and 0ch is the Alert
--- Response Address), and no earlier device's
-abbrev pub address_rule : List ℕ → Data → Result ℕ FaultKind
-address_rule taken d =
+-- Response Address), no earlier device's, and none of those that are ignored
+abbrev pub address_rule : List ℕ → List ℕ → Data → Result ℕ FaultKind
+address_rule taken ignored d =
     bind (typed as_integer d) (λ z.
     bind (or_fault faults.BadAddress (natural_within 0x08 0x77 z)) (λ address.
     bind (unless faults.BadAddress (not (nat_eq address 0x0c))) (λ _.
     bind (unless faults.AddressTwice (not (list_any (nat_eq address) taken))) (λ _.
-    Ok address))))
+    bind (unless faults.BadValue (not (list_any (nat_eq address) ignored))) (λ _.
+    Ok address)))))
 
 abbrev pub pec_words : List (List ℕ × PecMode)
 pec_words = (codes "off", Off) ∷ (codes "on", On) ∷ (codes "optional", Optional) ∷ []
 
 abbrev pub pages_rule : Data → Result ℕ FaultKind
 pages_rule d = bind (typed as_integer d) (λ z. or_fault faults.BadPages (natural_within 1 32 z))
+
+-- VOUT_MODE of each page at first, by a value that may be an array: one byte for all pages, or an item
+-- for each
+abbrev pub modes_of : ℕ → Data → Option Items → Result (List ℕ) FaultKind
+modes_of pages d None = bind (byte_rule d) (λ mode. Ok (replicate pages mode))
+modes_of pages d (Some items) =
+    bind (each_of byte_rule items) (λ modes.
+    bind (unless faults.BadValue (nat_eq (item_count items) pages)) (λ _.
+    Ok modes))
+
+abbrev pub modes_rule : ℕ → Data → Result (List ℕ) FaultKind
+modes_rule pages d = modes_of pages d (as_array d)
+
+-- the name of a device
+abbrev pub name_rule : Data → Result (List ℕ) FaultKind
+name_rule d = bind (typed as_str d) (λ text. bind (unless faults.BadName (is_device_name text)) (λ _. Ok text))
 
 -- the table of `vout_direct`
 abbrev pub coefficients_rule : Data → Result Coefficients FaultKind
@@ -44,33 +65,37 @@ pub record DeviceKeys : Type 0 where
   pub address : ℕ
   pub pec : PecMode
   pub pages : ℕ
-  pub vout_mode : ℕ
+  pub modes : List ℕ
   pub standard : Bool
   pub vout_direct : Option Coefficients
   pub commands : Items
+  pub name : Option (List ℕ)
 
 -- the keys that may be there, each ruled in its turn, after those that have to be
 abbrev pub other_keys : ℕ → PecMode → Members → Result DeviceKeys FaultKind
 other_keys address pec ms =
     bind (defaulted pages_rule 1 (codes "pages") ms) (λ pages.
-    bind (defaulted byte_rule 0x17 (codes "vout_mode") ms) (λ vout_mode.
+    bind (defaulted (modes_rule pages) (replicate pages 0x17) (codes "vout_mode") ms) (λ modes.
     bind (defaulted (typed as_bool) true (codes "standard") ms) (λ standard.
     bind (optional coefficients_rule (codes "vout_direct") ms) (λ vout_direct.
     bind (defaulted (typed as_array) no_items (codes "command") ms) (λ commands.
+    bind (optional name_rule (codes "name") ms) (λ name.
     Ok (record {
       address = address;
       pec = pec;
       pages = pages;
-      vout_mode = vout_mode;
+      modes = modes;
       standard = standard;
       vout_direct = vout_direct;
       commands = commands;
-    }))))))
+      name = name;
+    })))))))
 
--- each key ruled in its turn, where earlier devices have these addresses
-abbrev pub device_keys : List ℕ → Members → Result DeviceKeys FaultKind
-device_keys taken ms =
+-- each key ruled in its turn, where earlier devices have the addresses `taken`, and those in `ignored`
+-- are none of devices
+abbrev pub device_keys : List ℕ → List ℕ → Members → Result DeviceKeys FaultKind
+device_keys taken ignored ms =
     bind (only device_key_names ms) (λ _.
-    bind (required (address_rule taken) (codes "address") ms) (λ address.
+    bind (required (address_rule taken ignored) (codes "address") ms) (λ address.
     bind (required (word_rule faults.BadValue pec_words) (codes "pec") ms) (λ pec.
     other_keys address pec ms)))

@@ -1,4 +1,5 @@
 -- What contracts see of the keys of a device.
+use Rattle.std.specs.Prelude.{option_map}
 use Rattle.toml.specs.View.{items_view}
 use Rattle.pmb_keys.specs.declared.device_keys.DeviceKeys.{DeviceKeys as CodeKeys}
 use Rattle.pmb_keys.specs.DeviceKeys.{DeviceKeys}
@@ -8,8 +9,9 @@ keys_parts k = record {
   address = k.address;
   pec = k.pec;
   pages = k.pages;
-  vout_mode = k.vout_mode;
+  modes = k.modes.items;
   standard = k.standard;
   vout_direct = k.vout_direct;
   commands = items_view k.commands.now;
+  name = option_map (λ name. name.bytes) k.name;
 }

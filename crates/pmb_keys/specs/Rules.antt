@@ -1,9 +1,9 @@
 -- How the keys of a TOML table are ruled.
-use Rattle.std.specs.Prelude.{ℕ, ℤ, pos, negsuc, Bool, true, false, if◌then◌else◌, ◌&&◌, Option, Some, None, Result, Ok}
-use Rattle.std.specs.Prelude.{Err, List, [], ◌∷◌, nat_le}
+use Rattle.std.specs.Prelude.{ℕ, suc, ℤ, pos, negsuc, Bool, true, false, if◌then◌else◌, ◌&&◌, Option, Some, None}
+use Rattle.std.specs.Prelude.{Result, Ok, Err, List, [], ◌∷◌, nat_le}
 use Rattle.std.specs.Str.{bytes_eq}
 use Rattle.std.specs.List.{list_any, list_all}
-use Rattle.toml.specs.Data.{Data, Members, no_members, member, get_member}
+use Rattle.toml.specs.Data.{Data, Items, no_items, item, Members, no_members, member, get_member}
 use Rattle.pmb_keys.specs.declared.fault.FaultKind.{FaultKind}
 use Rattle.pmb_keys.specs.declared.fault.FaultKind.TheVariants.{UnknownKey, MissingKey, WrongType}
 
@@ -65,3 +65,13 @@ module _ {X : Type 0} (rule : Data → Result X FaultKind) where
 
   abbrev pub defaulted : X → List ℕ → Members → Result X FaultKind
   defaulted x key ms = defaulted_of x (get_member key ms)
+
+  -- the items of an array, each by the rule in its turn, up to the first fault
+  abbrev pub each_of : Items → Result (List X) FaultKind
+  each_of no_items = Ok []
+  each_of (item d ds) = bind (rule d) (λ x. bind (each_of ds) (λ xs. Ok (x ∷ xs)))
+
+-- how many items an array has
+abbrev pub item_count : Items → ℕ
+item_count no_items = 0
+item_count (item d ds) = suc (item_count ds)

@@ -2,26 +2,26 @@
 //!
 //! Its rows: `tests_tasks`, `src/profiles.rt`; `tests/rows/profiles.txt`, `tests/rows/forms.txt`.
 
-ghost use Rattle.std.specs.Prelude.{◌≡◌, ◌≢◌, ◌⊎◌, ◌%◌, Ok, Err, IfOk, IfErr, IfSome, length, not, option_map, map, codes, nat_eq};
+ghost use Rattle.std.specs.Prelude.{◌≡◌, ◌≢◌, ◌⊎◌, Ok, Err, IfOk, IfErr, not, map, codes, nat_eq};
 ghost use Rattle.std.specs.List.{list_any};
 ghost use Rattle.toml.specs.Data.{as_bool};
 ghost use Rattle.toml.specs.View.{view, table_view};
 ghost use Rattle.pmb_command.specs.Entry.{entry_parts};
-ghost use Rattle.pmb_command.specs.Bus.{IsCommand, IsFitting, IsInitial};
+ghost use Rattle.pmb_command.specs.Bus.{HasItemForEach, IsCommand, IsFitting};
 ghost use Rattle.pmb_command.specs.Names.{IsNameOf};
 ghost use Rattle.pmb_command.specs.Parts.{IsNew};
 ghost use Rattle.pmb_keys.specs.CommandView.{command_parts};
 ghost use Rattle.pmb_keys.specs.Rules.{bind, unless, only, typed, defaulted};
-ghost use Rattle.pmb_keys.specs.CommandRules.{command_key_names, entry_rule, initial_text, initial_of, command_of};
+ghost use Rattle.pmb_keys.specs.CommandRules.{command_check, command_key_names, entry_rule, command_of};
 ghost use Rattle.pmb_command.specs.Fitting.{is_fitting};
 
 use crate::base::read_base;
 use crate::command::Command;
 use crate::exponent_key::read_exponent;
 use crate::fault::FaultKind;
-use crate::initial::initial_bytes;
+use crate::initial_items::{initial_of, initial_value};
 use crate::kind_keys::read_kind;
-use crate::rules::{find, flag_of, only, table_of, text_of};
+use crate::rules::{find, flag_of, only, table_of};
 use crate::shape_keys::read_shape;
 use pmb_command::{Entry, is_fitting};
 use std::alloc::Global;
@@ -70,16 +70,6 @@ fn read_entry(table: &Table) -> Result<Entry, FaultKind>
     })
 }
 
-/// The text of the bytes that a command begins with.
-fn initial_text(table: &Table) -> Result<Option<&str>, FaultKind>
-    ensures { bind result (λ text. Ok (option_map (λ t. t.now) text)) ≡ initial_text (table_view table.now) }
-{
-    match find(table, "initial") {
-        Some(value) => Ok(Some(text_of(value)?)),
-        None => Ok(None),
-    }
-}
-
 /// Refuses a code that an earlier command has.
 fn check_code(code: u8, taken: &[u8]) -> Result<(), FaultKind>
     ensures read { result ≡ unless FaultKind.CodeTwice (not (list_any (nat_eq code) taken.now)) }
@@ -102,36 +92,27 @@ fn check_form(entry: &Entry) -> Result<(), FaultKind>
     Ok(())
 }
 
-/// The bytes that a command begins with, where a text gives some.
-fn initial_of(
+/// The command of a value, on a device with so many pages, where its earlier commands have the codes
+/// `taken`. Memory is taken for `initial` alone, after all other rules: where it is refused, each fault
+/// but `BadInitial` is told nonetheless.
+pub fn read_command(
     alloc: Global,
-    entry: &Entry,
-    text: Option<&str>,
-) -> Result<Option<Vec<u8>>, FaultKind>
-    ensures read { (result ≡ Err FaultKind.OutOfMemory) ⊎ (bind result (λ o. Ok (option_map (λ v. v.items) o)) ≡ initial_of (entry_parts entry.now) (option_map (λ t. t.now) text.entry)) }
-    ensures odd { IfSome (option_map (λ t. t.now) text.entry) (λ digits. length digits % 2 ≡ 1 → result ≡ Err FaultKind.BadInitial) }
-    ensures fits { IfOk result (λ o. IfSome (option_map (λ v. v.items) o) (IsInitial (entry_parts entry.now))) }
-{
-    match text {
-        Some(text) => Ok(Some(initial_bytes(alloc, entry, text)?)),
-        None => Ok(None),
-    }
-}
-
-/// The command of a value, where earlier commands of the device have the codes `taken`. Memory is
-/// taken for `initial` alone, after all other rules: where it is refused, each fault but `BadInitial`
-/// is told nonetheless.
-pub fn read_command(alloc: Global, value: &Value, taken: &[u8]) -> Result<Command, FaultKind>
-    ensures read { (result ≡ Err FaultKind.OutOfMemory) ⊎ (bind result (λ c. Ok (command_parts c)) ≡ command_of taken.now (view value.now)) }
-    ensures told { IfErr (command_of taken.now (view value.now)) (λ what. what ≢ FaultKind.BadInitial → result ≡ Err what) }
+    value: &Value,
+    pages: u8,
+    taken: &[u8],
+) -> Result<Command, FaultKind>
+    ensures read { (result ≡ Err FaultKind.OutOfMemory) ⊎ (bind result (λ c. Ok (command_parts c)) ≡ command_of pages taken.now (view value.now)) }
+    ensures told { IfErr (command_of pages taken.now (view value.now)) (λ what. what ≢ FaultKind.BadInitial → result ≡ Err what) }
+    ensures checked { IfErr (command_check pages taken.now (view value.now)) (λ what. result ≡ Err what) }
     ensures accepted { IfOk result (λ c. IsCommand (command_parts c)) }
+    ensures items { IfOk result (λ c. HasItemForEach pages (command_parts c).initial) }
     ensures own_code { IfOk result (λ c. IsNew c.entry.code taken.now) }
 {
     let table = table_of(value)?;
     let entry = read_entry(table)?;
-    let text = initial_text(table)?;
+    let given = initial_value(table)?;
     check_code(entry.code, taken)?;
     check_form(&entry)?;
-    let initial = initial_of(alloc, &entry, text)?;
+    let initial = initial_of(alloc, &entry, pages, given)?;
     Ok(Command { entry, initial })
 }

@@ -2,21 +2,25 @@
 //!
 //! Its rows: `tests_tasks`, `src/profiles.rt`; `tests/rows/profiles.txt`.
 
-ghost use Rattle.std.specs.Prelude.{◌≡◌, ◌≤◌, true, Ok, IfOk, codes, nat_eq};
+ghost use Rattle.std.specs.Prelude.{◌≡◌, ◌≤◌, true, Ok, IfOk, IfSome, codes, length, nat_eq, option_map};
 ghost use Rattle.pmb_command.specs.Bus.{IsDeviceAddress};
+ghost use Rattle.pmb_command.specs.Names.{IsDeviceName};
 ghost use Rattle.pmb_command.specs.Parts.{IsNew};
 ghost use Rattle.std.specs.List.{list_any};
 ghost use Rattle.toml.specs.Data.{no_items, as_bool, as_array, as_table};
 ghost use Rattle.toml.specs.View.{view, items_view, table_view};
 ghost use Rattle.pmb_keys.specs.Rules.{bind, named, typed, required, optional, defaulted};
-ghost use Rattle.pmb_keys.specs.CommandRules.{byte_rule, word_rule};
+ghost use Rattle.pmb_keys.specs.CommandRules.{word_rule};
 ghost use Rattle.pmb_keys.specs.DeviceKeys.{address_rule, pec_words, pages_rule, coefficients_rule, device_keys, other_keys};
 ghost use Rattle.pmb_keys.specs.DeviceKeysView.{keys_parts};
 
+use crate::device_name::read_name;
 use crate::fault::FaultKind;
+use crate::ignored::Ignored;
+use crate::modes::{Modes, read_modes};
 use crate::rules;
 use pmb_coefficients::Direct;
-use pmb_command::PecMode;
+use pmb_command::{Name, PecMode};
 use toml::{Table, Value};
 
 /// The Alert Response Address (SMBus 3.0 appendix C), which no device has as its own.
@@ -28,30 +32,47 @@ pub struct DeviceKeys<'a> {
     pub address: u8,
     pub pec: PecMode,
     pub pages: u8,
-    pub vout_mode: u8,
+    /// VOUT_MODE of each page at first.
+    pub modes: Modes,
     /// Whether the device has the standard commands.
     pub standard: bool,
     pub vout_direct: Option<Direct>,
     /// The values of its commands.
     pub commands: &'a [Value],
+    pub name: Option<Name>,
 }
 
-/// The keys of a value's table, where earlier devices have the addresses `taken`.
-pub fn read_device_keys<'a>(value: &'a Value, taken: &[u8]) -> Result<DeviceKeys<'a>, FaultKind>
-    ensures read { bind result (λ k. Ok (keys_parts k)) ≡ bind (typed as_table (view value.entry.now)) (device_keys taken.now) }
+/// The keys of a value's table, where earlier devices have the addresses `taken`, and no device has one
+/// that is ignored.
+pub fn read_device_keys<'a>(
+    value: &'a Value,
+    taken: &[u8],
+    ignored: &Ignored,
+) -> Result<DeviceKeys<'a>, FaultKind>
+    ensures read { bind result (λ k. Ok (keys_parts k)) ≡ bind (typed as_table (view value.entry.now)) (device_keys taken.now ignored.now) }
     ensures address { IfOk result (λ k. IsDeviceAddress k.address) }
     ensures own_address { IfOk result (λ k. IsNew k.address taken.now) }
+    ensures not_ignored { IfOk result (λ k. IsNew k.address ignored.now) }
     ensures pages { IfOk result (λ k. (1 ≤ k.pages) × (k.pages ≤ 32)) }
+    ensures mode_of_each { IfOk result (λ k. length k.modes.items ≡ k.pages) }
+    ensures name { IfOk result (λ k. IfSome (option_map (λ n. n.bytes) k.name) IsDeviceName) }
 {
-    device_keys(rules::table_of(value)?, taken)
+    device_keys(rules::table_of(value)?, taken, ignored)
 }
 
 /// The keys of a device's table, each ruled in its turn.
-fn device_keys<'a>(table: &'a Table, taken: &[u8]) -> Result<DeviceKeys<'a>, FaultKind>
-    ensures read { bind result (λ k. Ok (keys_parts k)) ≡ device_keys taken.now (table_view table.now) }
+fn device_keys<'a>(
+    table: &'a Table,
+    taken: &[u8],
+    ignored: &Ignored,
+) -> Result<DeviceKeys<'a>, FaultKind>
+    ensures read { bind result (λ k. Ok (keys_parts k)) ≡ device_keys taken.now ignored.now (table_view table.now) }
     ensures address { IfOk result (λ k. IsDeviceAddress k.address) }
     ensures own_address { IfOk result (λ k. IsNew k.address taken.now) }
+    ensures not_ignored { IfOk result (λ k. IsNew k.address ignored.now) }
     ensures pages { IfOk result (λ k. (1 ≤ k.pages) × (k.pages ≤ 32)) }
+    ensures mode_of_each { IfOk result (λ k. length k.modes.items ≡ k.pages) }
+    ensures name { IfOk result (λ k. IfSome (option_map (λ n. n.bytes) k.name) IsDeviceName) }
 {
     let known = [
         "address",
@@ -61,9 +82,10 @@ fn device_keys<'a>(table: &'a Table, taken: &[u8]) -> Result<DeviceKeys<'a>, Fau
         "standard",
         "vout_direct",
         "command",
+        "name",
     ];
     rules::only(table, &known)?;
-    let address = address(table, taken)?;
+    let address = address(table, taken, ignored)?;
     let pec = pec(table)?;
     other_keys(table, address, pec)
 }
@@ -74,38 +96,44 @@ fn other_keys(table: &Table, address: u8, pec: PecMode) -> Result<DeviceKeys<'_>
     ensures read { bind result (λ k. Ok (keys_parts k)) ≡ other_keys address pec (table_view table.now) }
     ensures address { IfOk result (λ k. k.address ≡ address) }
     ensures pages { IfOk result (λ k. (1 ≤ k.pages) × (k.pages ≤ 32)) }
+    ensures mode_of_each { IfOk result (λ k. length k.modes.items ≡ k.pages) }
+    ensures name { IfOk result (λ k. IfSome (option_map (λ n. n.bytes) k.name) IsDeviceName) }
 {
     let pages = pages(table)?;
-    let vout_mode = vout_mode(table)?;
+    let modes = read_modes(table, pages)?;
     let standard = standard(table)?;
     let vout_direct = vout_direct(table)?;
     let commands = commands(table)?;
+    let name = read_name(table)?;
     Ok(DeviceKeys {
         address,
         pec,
         pages,
-        vout_mode,
+        modes,
         standard,
         vout_direct,
         commands,
+        name,
     })
 }
 
 /// The address of a device, which has to give it.
-fn address(table: &Table, taken: &[u8]) -> Result<u8, FaultKind>
-    ensures read { result ≡ required (address_rule taken.now) (codes "address") (table_view table.now) }
+fn address(table: &Table, taken: &[u8], ignored: &Ignored) -> Result<u8, FaultKind>
+    ensures read { result ≡ required (address_rule taken.now ignored.now) (codes "address") (table_view table.now) }
     ensures address { IfOk result IsDeviceAddress }
     ensures own_address { IfOk result (λ a. IsNew a taken.now) }
+    ensures not_ignored { IfOk result (λ a. IsNew a ignored.now) }
 {
-    address_rule(rules::present(table, "address")?, taken)
+    address_rule(rules::present(table, "address")?, taken, ignored)
 }
 
-/// An address of 7 bits that is not reserved (SMBus 3.0 appendix C), or BadAddress; and no earlier
-/// device's, or AddressTwice.
-fn address_rule(value: &Value, taken: &[u8]) -> Result<u8, FaultKind>
-    ensures read { result ≡ address_rule taken.now (view value.now) }
+/// An address of 7 bits that is not reserved (SMBus 3.0 appendix C), or BadAddress; no earlier
+/// device's, or AddressTwice; and none that is ignored, or BadValue.
+fn address_rule(value: &Value, taken: &[u8], ignored: &Ignored) -> Result<u8, FaultKind>
+    ensures read { result ≡ address_rule taken.now ignored.now (view value.now) }
     ensures address { IfOk result IsDeviceAddress }
     ensures own_address { IfOk result (λ a. IsNew a taken.now) }
+    ensures not_ignored { IfOk result (λ a. IsNew a ignored.now) }
 {
     let address = match rules::natural_within(0x08, 0x77, rules::integer_of(value)?) {
         Some(address) => address,
@@ -116,6 +144,9 @@ fn address_rule(value: &Value, taken: &[u8]) -> Result<u8, FaultKind>
     }
     if is_taken(address, taken) {
         return Err(FaultKind::AddressTwice);
+    }
+    if ignored.contains(address) {
+        return Err(FaultKind::BadValue);
     }
     Ok(address)
 }
@@ -180,16 +211,6 @@ fn pages_rule(value: &Value) -> Result<u8, FaultKind>
     match rules::natural_within(1, 32, rules::integer_of(value)?) {
         Some(pages) => Ok(pages),
         None => Err(FaultKind::BadPages),
-    }
-}
-
-/// VOUT_MODE at first: linear with the exponent -9, unless the device says another.
-fn vout_mode(table: &Table) -> Result<u8, FaultKind>
-    ensures { result ≡ defaulted byte_rule 0x17 (codes "vout_mode") (table_view table.now) }
-{
-    match rules::find(table, "vout_mode") {
-        Some(value) => rules::byte_rule(value),
-        None => Ok(0x17),
     }
 }
 

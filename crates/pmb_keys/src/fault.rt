@@ -20,14 +20,16 @@ pub enum FaultKind {
     BadAddress,
     /// An earlier device has the address.
     AddressTwice,
-    /// A code or VOUT_MODE outside 0 to 255, an exponent outside -16 to 15, or a word that its key
-    /// does not know.
+    /// A code or VOUT_MODE outside 0 to 255, an exponent outside -16 to 15, a word that its key does
+    /// not know, not one VOUT_MODE for each page, an address that is ignored and outside 0 to 127, or
+    /// that a device has nonetheless.
     BadValue,
     /// A number of pages outside 1 to 32.
     BadPages,
     /// A name that no standard command has.
     UnknownName,
-    /// A name that is not 1 to 32 of A to Z, 0 to 9 and `_`.
+    /// A name of a command that is not 1 to 32 of A to Z, 0 to 9 and `_`, or of a device that is not
+    /// 1 to 32 characters from 20h to 7eh.
     BadName,
     /// A form that its key does not know, or forms that do not go together.
     BadForm,
@@ -35,7 +37,8 @@ pub enum FaultKind {
     BadCoefficients,
     /// An earlier command of the device has the code.
     CodeTwice,
-    /// Initial bytes of a command that has none, or that are not of its form.
+    /// Initial bytes of a command that has none, that are not of its form, or that are not given for
+    /// each page.
     BadInitial,
     /// There was no memory.
     OutOfMemory,

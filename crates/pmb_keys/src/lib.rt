@@ -1,12 +1,13 @@
 //! What the keys of a profile's TOML tables say, a rule a key, and the fault of each that is refused.
 //!
-//! [`read_device_keys`] reads the table of a device, and [`read_command`] that of a command. A key
+//! [`read_device_keys`] reads the table of a device, [`read_command`] that of a command, and
+//! [`read_ignored`] the addresses that a profile ignores. A key
 //! that a table may not have is refused by [`only`], and one that is missing by [`present`].
 //!
 //! ```rust
 //! let table = toml::table_from_str(rt.alloc(), "command = { name = 'READ_VIN' }")?;
 //! let value = table.get("command").ok_or("no value")?;
-//! let command = read_command(rt.alloc(), value, &[])?;
+//! let command = read_command(rt.alloc(), value, 1, &[])?;
 //! assert_eq!(rt; command.entry.code, 0x88);
 //! ```
 #![tactic(auto)]
@@ -15,16 +16,22 @@ mod base;
 mod command;
 mod command_keys;
 mod device_keys;
+mod device_name;
 mod exponent_key;
 mod fault;
+mod ignored;
 mod initial;
+mod initial_items;
 mod kind_keys;
+mod modes;
 mod rules;
 mod shape_keys;
 mod words;
 
-pub use command::Command;
+pub use command::{Command, Initial};
 pub use command_keys::read_command;
 pub use device_keys::{DeviceKeys, read_device_keys};
 pub use fault::FaultKind;
+pub use ignored::{Ignored, read_ignored};
+pub use modes::Modes;
 pub use rules::{array_of, only, present};

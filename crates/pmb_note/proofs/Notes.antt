@@ -1,14 +1,14 @@
 -- A note by what a context keeps is the note after the transactions that it was given. For
--- `Context::note` and `append_note`. A note depends on the profile and on each device's VOUT_MODE
+-- `Context::note`, `append_note` and `append_command`. A note depends on the profile and on each device's VOUT_MODE
 -- alone, and the context keeps the mode that the transactions selected.
 use Rattle.std.proofs.Common.{◌≡◌, ℕ, Result, Ok, Err, Option, Some, None, List, [], ◌∷◌, ◌++◌, codes, map, slice_get}
-use Rattle.std.proofs.Common.{refl, ap, ◌∙◌}
+use Rattle.std.proofs.Common.{option_map, refl, sym, ap, ◌∙◌}
 use Rattle.std.specs.List.{flat_map}
 use Rattle.std.specs.Option.{option_and_then}
 use Rattle.std.specs.Prelude.{IsOk, MatchResult}
 use Rattle.std.specs.Str.{IsUtf8}
 use Rattle.pmb_command.specs.Entry.{EntryParts}
-use Rattle.pmb_command.specs.Parts.{DeviceParts, command_with, device_with}
+use Rattle.pmb_command.specs.Parts.{CommandParts, DeviceParts, command_with, device_with}
 use Rattle.pmb_transaction.specs.Transaction.{PartData, TransactionData, Write, Read, Call, Refused, Alert, NoAlert}
 use Rattle.pmb_note.specs.Paging.{mode, paging, selected_mode}
 use Rattle.pmb_note.specs.Note.{command_text, joined, note, of_command, of_device, part_text_before, part_text}
@@ -82,3 +82,17 @@ pub ok_from_text : {T E : Type 0} (result : Result T E) (bytes : List ℕ) (P : 
     → MatchResult result P (λ e. ¬ (IsUtf8 bytes) × Q e) → IsUtf8 bytes → IsOk result
 ok_from_text (Ok x) bytes P Q cases text = refl
 ok_from_text (Err e) bytes P Q cases text = absurd (cases.0 text)
+
+-- what is said of a command that was found by its entry
+of_entry : (text : EntryParts → List ℕ) (entry : EntryParts) (o : Option CommandParts)
+    → Some entry ≡ option_map (λ c. c.entry) o → of_command text o ≡ text entry
+of_entry text entry None same = absurd (cc same)
+of_entry text entry (Some command) same = let is : command.entry ≡ entry = cc same in ap text is
+
+-- what is said of a command of a device: for `append_command`
+pub of_known : (text : DeviceParts → EntryParts → List ℕ) (code : ℕ) (device : DeviceParts) (entry : EntryParts)
+    (o : Option DeviceParts) → Some device ≡ o
+    → Some entry ≡ option_map (λ c. c.entry) (command_with code device.commands)
+    → of_device text code o ≡ text device entry
+of_known text code device entry o known same =
+    ap (of_device text code) (sym known) ∙ of_entry (text device) entry (command_with code device.commands) same

@@ -88,9 +88,9 @@ after_transaction device p t = fold (after_told device) p (told t)
 
 -- ---- after all
 
--- at first PAGE is 0, and VOUT_MODE on each page is the one of the profile
+-- at first PAGE is 0, and VOUT_MODE of each page is the one that the profile gives that page
 abbrev pub first_paging : DeviceParts → PagingData
-first_paging device = record { page = 0; modes = replicate device.pages device.vout_mode }
+first_paging device = record { page = 0; modes = device.modes }
 
 -- a device's PAGE and VOUT_MODE after transactions
 abbrev pub paging : DeviceParts → List TransactionData → PagingData

@@ -37,15 +37,13 @@ impl Model for Paging {
 }
 
 impl Paging {
-    /// The first values: page 0, and on each page the VOUT_MODE of the profile.
+    /// The first values: page 0, and for each page the VOUT_MODE that the profile gives it.
     pub fn new(device: &DeviceProfile) -> Paging
         ensures { result ≡ first_paging device.now }
     {
         accepted_device(device);
         let mut modes = ArrayVec::new();
-        for _ in 0..device.pages() {
-            modes.push(device.vout_mode());
-        }
+        let _ = modes.try_extend_from_slice(device.modes());
         Paging { page: 0, modes }
     }
 

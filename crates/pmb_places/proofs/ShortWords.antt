@@ -9,7 +9,7 @@ use Rattle.pmb_bus.proofs.Words.{ends_in_comment_by, in_comment_from_out}
 use Rattle.pmb_places.specs.declared.places.TextState.TheVariants.{Between, Word}
 use Rattle.pmb_places.specs.declared.places.Places.{Places}
 use Rattle.pmb_places.specs.declared.short_word.ShortWord.TheVariants.{One, Two}
-use Rattle.pmb_places.specs.machine.ShortWord.{IsShortWord, is_plain}
+use Rattle.pmb_places.specs.ShortWord.{IsShortWord, is_plain}
 use Rattle.pmb_places.specs.machine.Standing.{PlacesStandAt, after_byte, behind_word, place_beside}
 use Rattle.pmb_places.proofs.Bytes.{stands_after}
 use Rattle.pmb_places.proofs.OpenWords.{ended_by_separator}

@@ -1,4 +1,3 @@
 -- What private fields say of the text that was given.
 pub mod Standing
-pub mod ShortWord
 pub mod OpenWord

@@ -3,6 +3,7 @@
 //! [`Places`] is given the bytes of a text in pieces of any size, or the rest of a line of canonical text
 //! by its length. It says where the next byte stands, where the last word began and where it ended.
 //! [`OpenWord`] is given the bytes too, and keeps the first ones of the word that is under way.
+//! [`short_word`] has what tells whether bytes are a short word and a space, which most bytes come as.
 //!
 //! ```rust
 //! let mut places = Places::new();
@@ -18,7 +19,7 @@
 pub mod laws;
 mod open_word;
 mod places;
-mod short_word;
+pub mod short_word;
 
 pub use open_word::{OpenWord, WORD};
 pub use places::{Place, Places};

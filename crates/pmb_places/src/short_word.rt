@@ -1,11 +1,12 @@
 //! A short word and a space, as most bytes of a capture come.
 
 ghost use Rattle.std.specs.Prelude.{◌≡◌};
-ghost use Rattle.pmb_places.specs.machine.ShortWord.{IsShortWord, is_plain};
+ghost use Rattle.pmb_places.specs.ShortWord.{IsShortWord, is_plain};
 
-/// Whether bytes are a short word and a space, by the numbers of the word's bytes alone.
+/// Whether bytes are a short word and a space, by the numbers of the word's bytes alone. They are
+/// so where the bytes before them end in no comment.
 #[derive(Clone, Copy)]
-pub(crate) enum ShortWord {
+pub enum ShortWord {
     /// A word of one byte.
     One,
     /// A word of two.
@@ -25,7 +26,7 @@ fn is_plain(byte: u8) -> bool
 
 /// What bytes are.
 #[inline]
-pub(crate) fn short_word(bytes: &[u8]) -> ShortWord
+pub fn short_word(bytes: &[u8]) -> ShortWord
     ensures { IsShortWord result bytes.now }
 {
     match bytes {

@@ -1,8 +1,10 @@
--- Texts put together, row by row: for `describe`, `put_bus`, `put_devices`, `put_commands` and the
--- rows. The text so far is that of the first devices or commands, and one more adds its own.
-use Rattle.std.proofs.Common.{◌≡◌, ◌≢◌, ◌≤◌, ◌∙◌, ℕ, ◌+◌, Option, Some, Result, Ok, Err, OnOk, List, [], ◌∷◌, ◌++◌, ap}
-use Rattle.std.proofs.Common.{sym, subst, refl, append_assoc, append-nil, length, take, take_all, arith}
-use Rattle.std.specs.List.{flat_map, slice_get}
+-- Texts put together, row by row: for `describe`, `put_bus`, `put_devices`, `put_commands`,
+-- `put_each_mode`, `put_page_rows` and the rows. The text so far is that of the first devices,
+-- commands or pages, and one more adds its own.
+use Rattle.std.proofs.Common.{◌≡◌, ◌≢◌, ◌≤◌, ◌∙◌, ℕ, zero, suc, ◌+◌, Option, Some, Result, Ok, Err, OnOk, List, []}
+use Rattle.std.proofs.Common.{◌∷◌, ◌++◌, ap, sym, subst, refl, append_assoc, append-nil, length, take, take_all, arith}
+use Rattle.std.proofs.Common.{add-one}
+use Rattle.std.specs.List.{flat_map, range_with_len, slice_get}
 use Rattle.std.proofs.lemmas.List.{flat_map_more, length-take-le, take_more}
 use Rattle.std.proofs.lemmas.Option.{get_or_from_slice_get, slice_get_within}
 use Rattle.pmb_command.specs.Parts.{DeviceParts}
@@ -72,3 +74,18 @@ device_more bus i device is =
     let here : i ≡ 0 + length (take i bus) = omega (arith, short) in
     ap (λ (n : ℕ). devices_text 0 (take i bus) ++ device_text n device) here
     ∙ (devices_more 0 (take i bus) device ∙ ap (devices_text 0) (sym (one_more bus i device is)))
+
+-- numbers from 0 on, with one more
+pub numbers_more : (a n : ℕ) → range_with_len a (suc n) ≡ range_with_len a n ++ (a + n) ∷ []
+numbers_more a zero = ap (λ (m : ℕ). m ∷ []) (omega arith)
+numbers_more a (suc n) =
+    let last : a + 1 + n ≡ a + suc n = omega arith in
+    ap (λ (ms : List ℕ). a ∷ ms) (numbers_more (a + 1) n
+    ∙ ap (λ (m : ℕ). range_with_len (a + 1) n ++ m ∷ []) last)
+
+-- the texts of the first pages, with that of one more
+pub page_more : (text : ℕ → List ℕ) (n : ℕ)
+    → flat_map text (range_with_len 0 n) ++ text n ≡ flat_map text (range_with_len 0 (n + 1))
+page_more text n = flat_map_more text [] (range_with_len 0 n) n
+    ∙ ap (flat_map text) (sym (ap (range_with_len 0) (add-one n) ∙ numbers_more 0 n
+    ∙ ap (λ (m : ℕ). range_with_len 0 n ++ m ∷ []) (omega arith)))

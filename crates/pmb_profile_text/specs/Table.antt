@@ -1,14 +1,15 @@
--- The text of a bus: how many devices it has, and for each of them its keys and a table of its
--- commands.
-use Rattle.std.specs.Prelude.{ℕ, ◌+◌, ◌-◌, ◌*◌, Option, Some, None, List, [], ◌∷◌, ◌++◌, codes, decimal, length}
-use Rattle.std.specs.Prelude.{replicate, slice_index}
-use Rattle.std.specs.List.{flat_map}
+-- The text of a bus: how many devices it has, the addresses that are ignored, and for each device its
+-- keys and a table of its commands.
+use Rattle.std.specs.Prelude.{ℕ, ◌+◌, ◌-◌, ◌*◌, Bool, false, not, ◌&&◌, if◌then◌else◌, Option, Some, None, List, []}
+use Rattle.std.specs.Prelude.{◌∷◌, ◌++◌, bytes_eq, codes, decimal, length, nat_eq, replicate, slice_index}
+use Rattle.std.specs.List.{flat_map, list_any, range_with_len}
+use Rattle.pmb_coefficients.specs.Coefficients.{Coefficients}
 use Rattle.pmb_command.specs.declared.form.Form.{Form}
 use Rattle.pmb_command.specs.Fitting.{register_form}
-use Rattle.pmb_command.specs.Parts.{CommandParts, DeviceParts}
-use Rattle.pmb_registers.specs.State.{first_bytes}
-use Rattle.pmb_profile_text.specs.Words.{bytes_word, digits, form_word, kind_word, mode_words, paged_word, pec_word}
-use Rattle.pmb_profile_text.specs.Words.{vout_direct_word}
+use Rattle.pmb_command.specs.Parts.{CommandParts, DeviceParts, all_same}
+use Rattle.pmb_registers.specs.State.{first_bytes, first_mode}
+use Rattle.pmb_profile_text.specs.Words.{addresses_word, bytes_word, digits, form_word, kind_word, mode_words}
+use Rattle.pmb_profile_text.specs.Words.{page_word, paged_word, pec_word, vout_direct_word}
 
 -- ---- rows
 
@@ -19,7 +20,7 @@ space = slice_index (codes " ") 0
 abbrev pub cell : ℕ → List ℕ → List ℕ
 cell width text = text ++ replicate (width - length text) space
 
--- the cells of a row
+-- the cells of a row before its last column
 pub record Cells : Type 0 where
   pub code : List ℕ
   pub name : List ℕ
@@ -28,16 +29,15 @@ pub record Cells : Type 0 where
   pub call : List ℕ
   pub paged : List ℕ
   pub kind : List ℕ
-  pub first : List ℕ
 
-abbrev pub row_text : Cells → List ℕ
-row_text c =
+abbrev pub cells_text : Cells → List ℕ
+cells_text c =
     cell 5 c.code ++ (cell 33 c.name ++ (cell 6 c.write ++ (cell 6 c.read ++ (cell 6 c.call
-    ++ (cell 6 c.paged ++ (cell 26 c.kind ++ (c.first ++ codes "\n")))))))
+    ++ (cell 6 c.paged ++ cell 26 c.kind)))))
 
 -- the row that names the columns
 abbrev pub heading : List ℕ
-heading = row_text (record {
+heading = cells_text (record {
   code = codes "code";
   name = codes "name";
   write = codes "write";
@@ -45,19 +45,13 @@ heading = row_text (record {
   call = codes "call";
   paged = codes "paged";
   kind = codes "kind";
-  first = codes "at first";
-})
+}) ++ codes "at first\n"
 
 -- ---- commands
 
--- what a command's register holds at first, of its form; a hyphen where it has no register
-abbrev pub first_word : DeviceParts → CommandParts → Option Form → List ℕ
-first_word device command None = codes "-"
-first_word device command (Some form) = bytes_word (first_bytes device command form)
-
--- the row of a command of a device
-abbrev pub command_row : DeviceParts → CommandParts → List ℕ
-command_row device command = row_text (record {
+-- the cells of a command before its last column
+abbrev pub command_cells : CommandParts → List ℕ
+command_cells command = cells_text (record {
   code = digits command.entry.code;
   name = command.entry.name;
   write = form_word command.entry.shape.write;
@@ -65,8 +59,45 @@ command_row device command = row_text (record {
   call = form_word command.entry.shape.call;
   paged = paged_word command.entry.paged;
   kind = kind_word command.entry.kind;
-  first = first_word device command (register_form command.entry.shape);
 })
+
+-- what a command's register holds at first on a page, of its form; a hyphen where it has no register
+abbrev pub first_word : DeviceParts → ℕ → CommandParts → Option Form → List ℕ
+first_word device page command None = codes "-"
+first_word device page command (Some form) = bytes_word (first_bytes device page command form)
+
+-- the row of a command of a device, whose last column is what it holds at first
+abbrev pub command_row : DeviceParts → CommandParts → List ℕ
+command_row device command =
+    command_cells command ++ (first_word device 0 command (register_form command.entry.shape) ++ codes "\n")
+
+-- the cells of a page's row: those of the command in the row of page 0, and blank ones in the others
+abbrev pub page_cells : CommandParts → ℕ → List ℕ
+page_cells command page = if nat_eq page 0 then command_cells command else replicate 88 space
+
+-- the row of a page, whose last column is what the command holds there at first
+abbrev pub page_row : DeviceParts → CommandParts → ℕ → List ℕ
+page_row device command page =
+    page_cells command page
+    ++ (page_word page ++ (first_word device page command (register_form command.entry.shape) ++ codes "\n"))
+
+-- some page of the device begins otherwise than page 0
+abbrev pub pages_differ : DeviceParts → CommandParts → Form → Bool
+pages_differ device command form =
+    list_any (λ page. not (bytes_eq (first_bytes device page command form) (first_bytes device 0 command form)))
+    (range_with_len 0 device.pages)
+
+-- whether a command has a register for each page, and they don't all begin alike
+abbrev pub begins_by_page : DeviceParts → CommandParts → Option Form → Bool
+begins_by_page device command None = false
+begins_by_page device command (Some form) = command.entry.paged && pages_differ device command form
+
+-- the rows of a command: one for each page where it begins by page, and else one
+abbrev pub command_rows : DeviceParts → CommandParts → List ℕ
+command_rows device command =
+    if begins_by_page device command (register_form command.entry.shape)
+    then flat_map (page_row device command) (range_with_len 0 device.pages)
+    else command_row device command
 
 -- ---- devices
 
@@ -80,34 +111,74 @@ abbrev pub address_text : ℕ → List ℕ
 address_text address = digits address ++ (codes ", as a byte "
     ++ (digits (2 * address) ++ (codes " to write and " ++ (digits (2 * address + 1) ++ codes " to read"))))
 
--- the keys of a device that has a place in the profile
+-- the name of a device, where it has one
+abbrev pub name_line : Option (List ℕ) → List ℕ
+name_line None = []
+name_line (Some name) = field (codes "name") name
+
+-- the first keys of a device that has a place in the profile
 abbrev pub device_head : ℕ → DeviceParts → List ℕ
 device_head place device =
     codes "\n" ++ (field (codes "device") (decimal place)
+    ++ (name_line device.name
     ++ (field (codes "address") (address_text device.address)
     ++ (field (codes "pec") (pec_word device.pec)
-    ++ (field (codes "pages") (decimal device.pages)
-    ++ (field (codes "vout_mode") (digits device.vout_mode
-    ++ (codes ", " ++ mode_words device.vout_mode device.vout_direct))
-    ++ (field (codes "vout_direct") (vout_direct_word device.vout_direct)
-    ++ field (codes "commands") (decimal (length device.commands))))))))
+    ++ field (codes "pages") (decimal device.pages)))))
+
+-- a VOUT_MODE, and the format that it gives output voltages
+abbrev pub mode_text : Option Coefficients → ℕ → List ℕ
+mode_text coefficients mode = digits mode ++ (codes ", " ++ mode_words mode coefficients)
+
+-- the line of VOUT_MODE where all pages begin with one
+abbrev pub one_mode : DeviceParts → List ℕ
+one_mode device = field (codes "vout_mode") (mode_text device.vout_direct (first_mode device 0))
+
+-- the key of a page's line, which only that of page 0 has
+abbrev pub mode_key : ℕ → List ℕ
+mode_key page = if nat_eq page 0 then codes "vout_mode" else []
+
+-- the line of a page's VOUT_MODE
+abbrev pub mode_line : DeviceParts → ℕ → List ℕ
+mode_line device page =
+    field (mode_key page)
+    (page_word page ++ mode_text device.vout_direct (first_mode device page))
+
+-- the lines of VOUT_MODE at first: one for each page where they differ
+abbrev pub mode_lines : DeviceParts → List ℕ
+mode_lines device =
+    if all_same device.modes then one_mode device else flat_map (mode_line device) (range_with_len 0 device.pages)
+
+-- the last keys of a device
+abbrev pub device_end : DeviceParts → List ℕ
+device_end device =
+    field (codes "vout_direct") (vout_direct_word device.vout_direct)
+    ++ field (codes "commands") (decimal (length device.commands))
+
+-- the keys of a device
+abbrev pub device_keys : ℕ → DeviceParts → List ℕ
+device_keys place device = device_head place device ++ (mode_lines device ++ device_end device)
 
 -- the table of its commands
 abbrev pub command_table : DeviceParts → List CommandParts → List ℕ
-command_table device commands = flat_map (command_row device) commands
+command_table device commands = flat_map (command_rows device) commands
 
 abbrev pub device_text : ℕ → DeviceParts → List ℕ
-device_text place device = device_head place device ++ (heading ++ command_table device device.commands)
+device_text place device = device_keys place device ++ (heading ++ command_table device device.commands)
 
 -- devices, the first of which has this place
 abbrev pub devices_text : ℕ → List DeviceParts → List ℕ
 devices_text place [] = []
 devices_text place (device ∷ devices) = device_text place device ++ devices_text (place + 1) devices
 
--- how many devices there are
-abbrev pub bus_head : List DeviceParts → List ℕ
-bus_head bus = field (codes "devices") (decimal (length bus))
+-- the addresses that speak no PMBus, where the profile has the key
+abbrev pub ignore_line : Option (List ℕ) → List ℕ
+ignore_line None = []
+ignore_line (Some addresses) = field (codes "ignore") (addresses_word addresses)
+
+-- how many devices there are, and what is ignored
+abbrev pub bus_head : Option (List ℕ) → List DeviceParts → List ℕ
+bus_head ignored bus = field (codes "devices") (decimal (length bus)) ++ ignore_line ignored
 
 -- The text of a bus.
-abbrev pub bus_text : List DeviceParts → List ℕ
-bus_text bus = bus_head bus ++ devices_text 0 bus
+abbrev pub bus_text : Option (List ℕ) → List DeviceParts → List ℕ
+bus_text ignored bus = bus_head ignored bus ++ devices_text 0 bus

@@ -1,5 +1,6 @@
--- The words of a table: modes, forms, kinds, coefficients, bytes.
+-- The words of a table: modes, forms, kinds, coefficients, bytes, addresses, pages.
 use Rattle.std.specs.Prelude.{ℕ, Bool, true, false, Option, Some, None, Result, Ok, Err, List, [], ◌∷◌, ◌++◌, codes}
+use Rattle.std.specs.Prelude.{decimal}
 use Rattle.std.specs.Fmt.{signed_decimal}
 use Rattle.std.specs.List.{flat_map}
 use Rattle.hex.specs.Hex.{encode_lower}
@@ -79,3 +80,12 @@ digits byte = encode_lower (byte ∷ [])
 abbrev pub bytes_word : List ℕ → List ℕ
 bytes_word [] = codes "empty"
 bytes_word (byte ∷ bytes) = digits byte ++ flat_map digits bytes
+
+-- addresses, with a space between two
+abbrev pub addresses_word : List ℕ → List ℕ
+addresses_word [] = codes "none"
+addresses_word (address ∷ addresses) = digits address ++ flat_map (λ other. codes " " ++ digits other) addresses
+
+-- of which page something is said
+abbrev pub page_word : ℕ → List ℕ
+page_word page = codes "page " ++ (decimal page ++ codes ": ")

@@ -1,33 +1,55 @@
-//! The keys of a device.
+//! The keys of a device, without VOUT_MODE.
 //!
 //! Its rows: `tests/rows/profile_text.txt`.
 
 ghost use Rattle.std.specs.Prelude.{◌≡◌, ◌+◌, ◌≤◌, ◌<◌, ◌++◌, codes, decimal, length};
-ghost use Rattle.pmb_profile_text.specs.Table.{address_text, device_head, field};
-ghost use Rattle.pmb_profile_text.specs.Words.{digits, mode_words};
+ghost use Rattle.pmb_profile_text.specs.Table.{address_text, device_end, device_head, field, name_line};
+ghost use Rattle.pmb_profile_text.specs.Words.{digits};
 
 use crate::row::{Row, append, append_byte, append_cell, append_number};
-use crate::words::{append_mode, pec_word, vout_direct_word};
+use crate::words::{pec_word, vout_direct_word};
 use pmb_table::DeviceProfile;
+use pmb_table::laws::accepted_device;
 
 /// The width of the column of keys.
-const KEYS: usize = 12;
+pub(crate) const KEYS: usize = 12;
 
-/// The keys of a device that has a place in the profile.
+/// The first keys of a device that has a place in the profile.
 pub(crate) fn device_head(place: usize, device: &DeviceProfile) -> Row
     ensures { result.items ≡ device_head place device.now }
 {
     let mut head = Row::new();
     append(&mut head, b"\n");
     append_count(&mut head, b"device", place);
+    append_name(&mut head, device);
     append_address(&mut head, device.address());
     append_field(&mut head, b"pec", pec_word(device.pec()));
     append_count(&mut head, b"pages", device.pages() as usize);
-    append_vout_mode(&mut head, device);
-    let vout_direct = vout_direct_word(device.vout_direct());
-    append_field(&mut head, b"vout_direct", vout_direct.as_slice());
-    append_count(&mut head, b"commands", device.len());
     head
+}
+
+/// The last keys of a device.
+pub(crate) fn device_end(device: &DeviceProfile) -> Row
+    ensures { result.items ≡ device_end device.now }
+{
+    let mut end = Row::new();
+    let vout_direct = vout_direct_word(device.vout_direct());
+    append_field(&mut end, b"vout_direct", vout_direct.as_slice());
+    append_count(&mut end, b"commands", device.len());
+    end
+}
+
+/// Appends the line of a device's name, where it has one.
+fn append_name(head: &mut Row, device: &DeviceProfile)
+    requires { length head.old.items + 45 ≤ 1024 }
+    ensures text { head.new.items ≡ head.old.items ++ name_line device.now.name }
+    ensures short { length head.new.items ≤ length head.old.items + 45 }
+{
+    accepted_device(device);
+    match device.name() {
+        Some(name) => append_field(head, b"name", name.as_bytes()),
+        None => {}
+    }
 }
 
 /// Appends a key and its value: at most 45 bytes.
@@ -69,18 +91,5 @@ fn append_address(head: &mut Row, address: u8)
     append(head, b" to write and ");
     append_byte(head, 2 * address + 1);
     append(head, b" to read");
-    append(head, b"\n");
-}
-
-/// Appends the line of VOUT_MODE.
-fn append_vout_mode(head: &mut Row, device: &DeviceProfile)
-    requires { length head.old.items + 80 ≤ 1024 }
-    ensures text { head.new.items ≡ head.old.items ++ field (codes "vout_mode") (digits device.now.vout_mode ++ (codes ", " ++ mode_words device.now.vout_mode device.now.vout_direct)) }
-    ensures short { length head.new.items ≤ length head.old.items + 80 }
-{
-    append_cell(head, b"vout_mode", KEYS);
-    append_byte(head, device.vout_mode());
-    append(head, b", ");
-    append_mode(head, device.vout_mode(), device.vout_direct());
     append(head, b"\n");
 }

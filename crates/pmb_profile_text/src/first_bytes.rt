@@ -13,16 +13,16 @@ use pmb_command::Entry;
 use pmb_registers::{first_bytes, register_form};
 use pmb_table::DeviceProfile;
 
-/// Appends what a command's register holds at first, or a hyphen where it has none: at most 510
-/// bytes.
-pub(crate) fn append_first(row: &mut Row, device: &DeviceProfile, entry: &Entry)
+/// Appends what a command's register holds at first on a page, or a hyphen where it has none: at
+/// most 510 bytes.
+pub(crate) fn append_first(row: &mut Row, device: &DeviceProfile, page: u8, entry: &Entry)
     requires { length row.old.items + 510 ≤ 1024 }
     ensures text { (command : CommandParts) → command_with entry.now.code device.now.commands ≡ Some command → command.entry.shape ≡ entry.now.shape
-        → row.new.items ≡ row.old.items ++ first_word device.now command (register_form command.entry.shape) }
+        → row.new.items ≡ row.old.items ++ first_word device.now page command (register_form command.entry.shape) }
     ensures short { length row.new.items ≤ length row.old.items + 510 }
 {
     match register_form(entry.shape) {
-        Some(form) => append_bytes(row, first_bytes(device, entry.code, form).as_slice()),
+        Some(form) => append_bytes(row, first_bytes(device, page, entry.code, form).as_slice()),
         None => append(row, b"-"),
     }
 }

@@ -3,7 +3,7 @@
 //! [`describe`] writes it. What it is, `specs/Table.antt` says from the profile alone.
 //!
 //! ```rust
-//! let profile = Profile::from_toml(rt.alloc(), b"[[device]]\naddress = 0x20\npec = \"off\"\nstandard = false\n")?;
+//! let profile = BusProfile::from_toml(rt.alloc(), b"[[device]]\naddress = 0x20\npec = \"off\"\nstandard = false\n")?;
 //! let mut writer = Io::new(Vec::new(rt.alloc()));
 //! describe(&profile, &mut writer)?;
 //! let text = writer.into_inner();
@@ -12,9 +12,13 @@
 #![tactic(auto)]
 
 mod bus;
+mod bus_head;
 mod command_row;
 mod device_head;
+mod device_text;
 mod first_bytes;
+mod modes;
+mod pages;
 mod row;
 mod words;
 

@@ -4,7 +4,7 @@
 
 ghost use Rattle.std.specs.Prelude.{◌≡◌, ◌+◌, ◌-◌, ◌≤◌, ◌++◌, length, replicate};
 ghost use Rattle.pmb_profile_text.specs.Table.{cell, space};
-ghost use Rattle.pmb_profile_text.specs.Words.{digits};
+ghost use Rattle.pmb_profile_text.specs.Words.{digits, page_word};
 
 use arrayvec::ArrayVec;
 use itoa::{Buffer, Integer};
@@ -59,7 +59,7 @@ pub(crate) fn append_cell(row: &mut Row, text: &[u8], width: usize)
 }
 
 /// Appends that many spaces.
-fn append_spaces(row: &mut Row, count: usize)
+pub(crate) fn append_spaces(row: &mut Row, count: usize)
     requires { length row.old.items + count ≤ 1024 }
     ensures text { row.new.items ≡ row.old.items ++ replicate count space }
     ensures long { length row.new.items ≡ length row.old.items + count }
@@ -67,4 +67,15 @@ fn append_spaces(row: &mut Row, count: usize)
     for _ in 0..count {
         row.push(b' ');
     }
+}
+
+/// Appends which page is spoken of: at most 10 bytes.
+pub(crate) fn append_page(row: &mut Row, page: u8)
+    requires { length row.old.items + 10 ≤ 1024 }
+    ensures text { row.new.items ≡ row.old.items ++ page_word page }
+    ensures short { length row.new.items ≤ length row.old.items + 10 }
+{
+    append(row, b"page ");
+    append_number(row, page);
+    append(row, b": ");
 }

@@ -1,6 +1,6 @@
 -- The registers that a device begins with, command by command. For the functions of `first.rt`
--- that add them (`first_bytes`, `push_pages`, `push_registers`, `add_registers`, `add_command`,
--- `no_places`). The registers so far are those of the commands before; a command adds one for each
+-- that add them (`first_bytes`, `push_register`, `push_pages`, `push_registers`, `add_registers`,
+-- `add_command`, `no_places`). The registers so far are those of the commands before; a command adds one for each
 -- of its pages, or one for all, and the place of its code spans just these (`ArePlaces`).
 use Rattle.std.proofs.Common.{◌≡◌, ◌≢◌, ◌⊎◌, inl, inr, ℕ, zero, suc, ◌+◌, ◌<◌, Bool, true, false, cond, Option, Some}
 use Rattle.std.proofs.Common.{None, List, [], ◌∷◌, ◌++◌, length, map, take, drop, set, get_or, replicate, nat_eq}
@@ -8,7 +8,6 @@ use Rattle.std.proofs.Common.{option_map, option_and_then, refl, sym, ap, ◌∙
 use Rattle.std.proofs.Common.{append_assoc}
 use Rattle.std.specs.List.{AllByRecursion, IsDistinct, flat_map, range_with_len}
 use Rattle.std.specs.List.{slice_get}
-use Rattle.std.specs.Option.{unwrap_or}
 use Rattle.std.proofs.lemmas.Option.{get_or_from_slice_get, slice_get-get_or}
 use Rattle.std.proofs.lemmas.Bool.{cases_eq, eqb-false, ne_eqb}
 use Rattle.std.proofs.lemmas.List.{map-append, take-append-le, take_at, drop-append-le, drop_all, length-append}
@@ -16,12 +15,10 @@ use Rattle.std.proofs.lemmas.List.{get_or-set_same, get_or-set_other, get_or-rep
 use Rattle.pmb_command.specs.declared.form.Form.{Form}
 use Rattle.pmb_command.specs.Entry.{EntryParts}
 use Rattle.pmb_command.specs.Fitting.{register_form}
-use Rattle.pmb_command.specs.Parts.{CommandParts, DeviceParts, HaveOwnCodes, command_with}
-use Rattle.pmb_registers.specs.declared.register.Register.{Register}
+use Rattle.pmb_command.specs.Parts.{CommandParts, DeviceParts, HaveOwnCodes, command_with, initial_on}
 use Rattle.pmb_registers.specs.declared.register_range.RegisterRange.{RegisterRange}
-use Rattle.pmb_registers.specs.State.{RegisterData, first_bytes, first_bytes_at, own_pages, registers_in, registers_of}
-use Rattle.pmb_registers.specs.State.{zeros}
-use Rattle.pmb_registers.specs.machine.Registers.{register_data}
+use Rattle.pmb_registers.specs.State.{RegisterData, first_bytes, first_bytes_at, first_mode, first_page, own_pages}
+use Rattle.pmb_registers.specs.State.{registers_in, registers_of, zeros}
 use Rattle.pmb_registers.specs.machine.Places.{NoneHas, IsPlaceOf, ArePlaces, registers_of_some}
 
 -- ---- the command with a code
@@ -42,31 +39,38 @@ found_code code (x ∷ cs) command is = elim (pick (nat_eq x.entry.code code) x 
 
 -- ---- first bytes
 
-module _ (device : DeviceParts) (code : ℕ) (form : Form) where
-  -- VOUT_MODE begins with the mode
+module _ (device : DeviceParts) (page code : ℕ) (form : Form) where
+  -- VOUT_MODE begins with the page's mode
   -- 0x20 is VOUT_MODE
-  pub mode_at : (initial : Option (List ℕ)) → code ≡ 0x20 → first_bytes_at device code initial form ≡ device.vout_mode
-      ∷ []
+  pub mode_at : (initial : Option (List ℕ)) → code ≡ 0x20
+      → first_bytes_at device page code initial form ≡ first_mode device page ∷ []
   mode_at initial same = rw (eq-eqb code 0x20 same) refl
 
   -- any other code with zeros, where the profile gives no bytes
-  pub zeros_at : code ≢ 0x20 → first_bytes_at device code None form ≡ zeros form
+  pub zeros_at : code ≢ 0x20 → first_bytes_at device page code None form ≡ zeros form
   zeros_at other = rw (ne_eqb code 0x20 other) refl
 
-module _ (device : DeviceParts) (code : ℕ) (command : CommandParts) (form : Form)
+module _ (device : DeviceParts) (page code : ℕ) (command : CommandParts) (form : Form)
     (is : command_with code device.commands ≡ Some command) where
+  -- what the profile gives a command on the page
+  abbrev given : Option CommandParts → Option (List ℕ)
+  given found = option_and_then (λ c. initial_on page c.initial) found
+
+  not_mode : code ≢ 0x20 → command.entry.code ≢ 0x20
+  not_mode other = λ same. other (sym (found_code code device.commands command is) ∙ same)
+
   -- so does the command with that code
-  pub begins_with_mode : code ≡ 0x20 → first_bytes device command form ≡ device.vout_mode ∷ []
-  begins_with_mode same = mode_at device command.entry.code form command.initial
+  pub begins_with_mode : code ≡ 0x20 → first_bytes device page command form ≡ first_mode device page ∷ []
+  begins_with_mode same = mode_at device page command.entry.code form (initial_on page command.initial)
       (found_code code device.commands command is ∙ same)
 
-  pub begins_with_zeros : code ≢ 0x20 → None ≡ option_and_then (λ c. c.initial) (command_with code device.commands)
-      → first_bytes device command form ≡ zeros form
+  pub begins_with_zeros : code ≢ 0x20
+      → None ≡ option_and_then (λ c. initial_on page c.initial) (command_with code device.commands)
+      → first_bytes device page command form ≡ zeros form
   begins_with_zeros other none =
-      let not_given : command.initial ≡ None = sym (none ∙ ap (option_and_then (λ (c : CommandParts). c.initial)) is) in
-      ap (λ (initial : Option (List ℕ)). first_bytes_at device command.entry.code initial form) not_given
-      ∙ zeros_at device command.entry.code form
-      (λ same. other (sym (found_code code device.commands command is) ∙ same))
+      let not_given : initial_on page command.initial ≡ None = sym (none ∙ ap given is) in
+      ap (λ (initial : Option (List ℕ)). first_bytes_at device page command.entry.code initial form) not_given
+      ∙ zeros_at device page command.entry.code form (not_mode other)
 
 -- ---- the registers of one command
 
@@ -77,78 +81,75 @@ range_more a (suc n) =
     ap (λ (ms : List ℕ). a ∷ ms) (range_more (a + 1) n ∙ ap (λ (m : ℕ). range_with_len (a + 1) n ++ m ∷ []) last)
 
 -- one page more
-pub pushed_page : (f : Option ℕ → RegisterData) (before : List RegisterData) (old after : List Register) (r : Register)
-    (n : ℕ)
-    → map register_data old ≡ before ++ map f (map Some (range_with_len 0 n)) → after ≡ old ++ r ∷ []
-    → register_data r ≡ f (Some n)
-    → map register_data after ≡ before ++ map f (map Some (range_with_len 0 (n + 1)))
-pushed_page f before old after r n so_far pushed is =
+pub pushed_page : (f : Option ℕ → RegisterData) (before so_far after : List RegisterData) (n : ℕ)
+    → so_far ≡ before ++ map f (map Some (range_with_len 0 n)) → after ≡ so_far ++ f (Some n) ∷ []
+    → after ≡ before ++ map f (map Some (range_with_len 0 (n + 1)))
+pushed_page f before so_far after n are pushed =
     let numbers : range_with_len 0 (n + 1) ≡ range_with_len 0 n ++ n ∷ [] = ap (range_with_len 0) (add-one n)
     ∙ range_more 0 n ∙ ap (λ (m : ℕ). range_with_len 0 n ++ m ∷ []) (omega arith) in
     let pages : map f (map Some (range_with_len 0 (n + 1))) ≡ map f (map Some (range_with_len 0 n)) ++ f (Some n) ∷ [] =
     ap (λ (ms : List ℕ). map f (map Some ms)) numbers ∙ ap (map f) (map-append Some (range_with_len 0 n) (n ∷ []))
     ∙ map-append f (map Some (range_with_len 0 n)) (Some n ∷ []) in
-    ap (map register_data) pushed ∙ map-append register_data old (r ∷ [])
-    ∙ ap (λ (rs : List RegisterData). rs ++ register_data r ∷ []) so_far
-    ∙ ap (λ (x : RegisterData). (before ++ map f (map Some (range_with_len 0 n))) ++ x ∷ []) is
+    pushed ∙ ap (λ (rs : List RegisterData). rs ++ f (Some n) ∷ []) are
     ∙ append_assoc before (map f (map Some (range_with_len 0 n))) (f (Some n) ∷ [])
     ∙ ap (λ (rs : List RegisterData). before ++ rs) (sym pages)
 
-abbrev pub one_register : ℕ → List ℕ → Option ℕ → RegisterData
-one_register code bytes page = record { code = code; page = page; bytes = bytes }
+-- the register of a code on a page, which holds these bytes on each
+abbrev pub one_register : ℕ → (Option ℕ → List ℕ) → Option ℕ → RegisterData
+one_register code bytes page = record { code = code; page = page; bytes = bytes page }
 
-registers_as : (device : DeviceParts) (code : ℕ) (entry : EntryParts) (form : Form) (bytes : List ℕ)
-    (found : Option CommandParts) → command_with code device.commands ≡ found
-    → Some entry ≡ option_map (λ c. c.entry) found → register_form entry.shape ≡ Some form
-    → ((command : CommandParts) → command_with code device.commands ≡ Some command
-    → bytes ≡ first_bytes device command form)
-    → registers_of_some device found ≡ map (one_register code bytes) (own_pages device.pages entry.paged)
-registers_as device code entry form bytes None is same formed begins = absurd (cc same)
-registers_as device code entry form bytes (Some command) is same formed begins =
-    let entry_is : command.entry ≡ entry = cc in
-    let form_is : register_form command.entry.shape ≡ Some form =
-    ap (λ (e : EntryParts). register_form e.shape) entry_is ∙ formed in
-    ap (registers_in device command) form_is
-    ∙ ap (λ (e : EntryParts). map (one_register command.entry.code (first_bytes device command form))
-    (own_pages device.pages e.paged)) entry_is
-    ∙ ap (λ (bs : List ℕ). map (one_register command.entry.code bs) (own_pages device.pages entry.paged))
-    (sym (begins command is))
-    ∙ ap (λ (n : ℕ). map (one_register n bytes) (own_pages device.pages entry.paged))
-    (found_code code device.commands command is)
+-- what a command begins with in a form, in the register of a page or of all
+abbrev pub beginning : DeviceParts → CommandParts → Form → Option ℕ → List ℕ
+beginning device command form page = first_bytes device (first_page page) command form
 
--- the registers of a code are those of its pages
-pub registers_are : (device : DeviceParts) (code : ℕ) (entry : EntryParts) (form : Form) (bytes : List ℕ)
-    → Some entry ≡ option_map (λ c. c.entry) (command_with code device.commands) → register_form entry.shape ≡ Some form
-    → ((command : CommandParts) → command_with code device.commands ≡ Some command
-    → bytes ≡ first_bytes device command form)
-    → registers_of_some device (command_with code device.commands)
-    ≡ map (one_register code bytes) (own_pages device.pages entry.paged)
-registers_are device code entry form bytes same formed begins = registers_as device code entry form bytes
-    (command_with code device.commands) refl same formed begins
+-- the command of an entry that was found
+entry_found : (entry : EntryParts) (found : Option CommandParts) → Some entry ≡ option_map (λ c. c.entry) found
+    → (command : CommandParts) × ((found ≡ Some command) × (command.entry ≡ entry))
+entry_found entry None same = absurd (cc same)
+entry_found entry (Some command) same =
+    let is : command.entry ≡ entry = cc same in
+    (command, (refl, is))
 
--- those of a command that is paged
-pub registers_on_pages : (device : DeviceParts) (code pages : ℕ) (entry : EntryParts) (form : Form) (bytes : List ℕ)
-    → Some entry ≡ option_map (λ c. c.entry) (command_with code device.commands) → register_form entry.shape ≡ Some form
-    → ((command : CommandParts) → command_with code device.commands ≡ Some command
-    → bytes ≡ first_bytes device command form)
-    → entry.paged ≡ true → pages ≡ device.pages
-    → map (one_register code bytes) (map Some (range_with_len 0 pages))
-    ≡ registers_of_some device (command_with code device.commands)
-registers_on_pages device code pages entry form bytes same formed begins paged all =
-    ap (λ (n : ℕ). map (one_register code bytes) (map Some (range_with_len 0 n))) all
-    ∙ ap (λ (each : Bool). map (one_register code bytes) (own_pages device.pages each)) (sym paged)
-    ∙ sym (registers_are device code entry form bytes same formed begins)
+module _ (device : DeviceParts) (code : ℕ) (entry : EntryParts) (form : Form)
+    (same : Some entry ≡ option_map (λ c. c.entry) (command_with code device.commands))
+    (formed : register_form entry.shape ≡ Some form) where
+  -- the command with the code
+  pub the_command : (command : CommandParts) × ((command_with code device.commands ≡ Some command)
+      × (command.entry ≡ entry))
+  the_command = entry_found entry (command_with code device.commands) same
 
--- that of a command that is not
-pub register_of_all : (device : DeviceParts) (code : ℕ) (entry : EntryParts) (form : Form) (bytes : List ℕ)
-    → Some entry ≡ option_map (λ c. c.entry) (command_with code device.commands) → register_form entry.shape ≡ Some form
-    → ((command : CommandParts) → command_with code device.commands ≡ Some command
-    → bytes ≡ first_bytes device command form)
-    → entry.paged ≡ false
-    → one_register code bytes None ∷ [] ≡ registers_of_some device (command_with code device.commands)
-register_of_all device code entry form bytes same formed begins paged =
-    ap (λ (each : Bool). map (one_register code bytes) (own_pages device.pages each)) (sym paged)
-    ∙ sym (registers_are device code entry form bytes same formed begins)
+  -- the registers of a code are those of its pages
+  registers_are : registers_of_some device (command_with code device.commands)
+      ≡ map (one_register code (beginning device the_command.0 form)) (own_pages device.pages entry.paged)
+  registers_are =
+      let command = the_command.0 in
+      let is = the_command.1.0 in
+      let entry_is = the_command.1.1 in
+      let form_is : register_form command.entry.shape ≡ Some form =
+      ap (λ (e : EntryParts). register_form e.shape) entry_is ∙ formed in
+      ap (registers_of_some device) is ∙ ap (registers_in device command) form_is
+      ∙ ap (λ (e : EntryParts). map (one_register command.entry.code (beginning device command form))
+      (own_pages device.pages e.paged)) entry_is
+      ∙ ap (λ (n : ℕ). map (one_register n (beginning device command form)) (own_pages device.pages entry.paged))
+      (found_code code device.commands command is)
+
+  -- those of a command that is paged
+  pub registers_on_pages : entry.paged ≡ true
+      → map (one_register code (beginning device the_command.0 form)) (map Some (range_with_len 0 device.pages))
+      ≡ registers_of_some device (command_with code device.commands)
+  registers_on_pages paged =
+      ap (λ (each : Bool). map (one_register code (beginning device the_command.0 form))
+      (own_pages device.pages each)) (sym paged)
+      ∙ sym registers_are
+
+  -- that of a command that is not
+  pub register_of_all : entry.paged ≡ false
+      → one_register code (beginning device the_command.0 form) None ∷ []
+      ≡ registers_of_some device (command_with code device.commands)
+  register_of_all paged =
+      ap (λ (each : Bool). map (one_register code (beginning device the_command.0 form))
+      (own_pages device.pages each)) (sym paged)
+      ∙ sym registers_are
 
 -- ---- places
 
@@ -156,7 +157,7 @@ none_has_append : (code : ℕ) (xs ys : List RegisterData) → NoneHas code xs �
 none_has_append code [] ys none others = others
 none_has_append code (x ∷ xs) ys (other, none) others = (other, none_has_append code xs ys none others)
 
-none_on_pages : (code own : ℕ) (bytes : List ℕ) (pages : List (Option ℕ)) → code ≢ own
+none_on_pages : (code own : ℕ) (bytes : Option ℕ → List ℕ) (pages : List (Option ℕ)) → code ≢ own
     → NoneHas code (map (one_register own bytes) pages)
 none_on_pages code own bytes [] other = tt
 none_on_pages code own bytes (page ∷ pages) other = (other, none_on_pages code own bytes pages other)
@@ -165,7 +166,7 @@ none_in_form : (device : DeviceParts) (code : ℕ) (command : CommandParts) (for
     → code ≢ command.entry.code → NoneHas code (registers_in device command form)
 none_in_form device code command None other = tt
 none_in_form device code command (Some form) other =
-    none_on_pages code command.entry.code (first_bytes device command form) (own_pages device.pages command.entry.paged)
+    none_on_pages code command.entry.code (beginning device command form) (own_pages device.pages command.entry.paged)
     other
 
 none_of_some : (device : DeviceParts) (code other : ℕ) (found : Option CommandParts)

@@ -3,13 +3,13 @@
 -- Which registers a device has, and what they begin with, is this project's own rule; the standard
 -- leaves it to the device. Pages are those of PMBus Part II 1.3 section 11.10.
 use Rattle.std.specs.Prelude.{ℕ, Bool, true, ◌&&◌, if◌then◌else◌, Option, Some, None, List, [], ◌∷◌, map, nat_eq}
-use Rattle.std.specs.Prelude.{nat_lt, option_map}
+use Rattle.std.specs.Prelude.{nat_lt, option_map, slice_get}
 use Rattle.std.specs.List.{find, flat_map, range_with_len}
 use Rattle.std.specs.Option.{unwrap_or}
 use Rattle.pmb_command.specs.declared.form.Form.{Form}
 use Rattle.pmb_command.specs.declared.form.Form.TheVariants.{Zero, One, Two, Four, Eight, Block}
 use Rattle.pmb_command.specs.Fitting.{register_form}
-use Rattle.pmb_command.specs.Parts.{CommandParts, DeviceParts}
+use Rattle.pmb_command.specs.Parts.{CommandParts, DeviceParts, initial_on}
 
 -- What one register holds: the bytes of a command's value, low byte first, without the count of a
 -- block. A command that is paged has a register for each page; another one has one for all pages.
@@ -51,15 +51,24 @@ zeros Four = 0 ∷ 0 ∷ 0 ∷ 0 ∷ []
 zeros Eight = 0 ∷ 0 ∷ 0 ∷ 0 ∷ 0 ∷ 0 ∷ 0 ∷ 0 ∷ []
 zeros Block = []
 
--- What a code's register holds at first: that of VOUT_MODE the device's mode, any other the bytes
--- that the profile gives it, or else zeros.
-abbrev pub first_bytes_at : DeviceParts → ℕ → Option (List ℕ) → Form → List ℕ
-first_bytes_at device code initial form = if nat_eq code 0x20 then device.vout_mode
+-- VOUT_MODE of a page at first; 0 where the device has no such page
+abbrev pub first_mode : DeviceParts → ℕ → ℕ
+first_mode device page = unwrap_or (slice_get device.modes page) 0
+
+-- What a code's register holds at first on a page: that of VOUT_MODE the page's mode, any other the
+-- bytes that the profile gives it there, or else zeros.
+abbrev pub first_bytes_at : DeviceParts → ℕ → ℕ → Option (List ℕ) → Form → List ℕ
+first_bytes_at device page code initial form = if nat_eq code 0x20 then first_mode device page
     ∷ [] else unwrap_or initial (zeros form)
 
 -- that of a command that the device has
-abbrev pub first_bytes : DeviceParts → CommandParts → Form → List ℕ
-first_bytes device command form = first_bytes_at device command.entry.code command.initial form
+abbrev pub first_bytes : DeviceParts → ℕ → CommandParts → Form → List ℕ
+first_bytes device page command form =
+    first_bytes_at device page command.entry.code (initial_on page command.initial) form
+
+-- the page with whose bytes a register begins: its own, or page 0 where it is for all pages
+abbrev pub first_page : Option ℕ → ℕ
+first_page page = unwrap_or page 0
 
 -- the pages for which a command has registers
 abbrev pub own_pages : ℕ → Bool → List (Option ℕ)
@@ -70,7 +79,12 @@ own_pages pages paged = if paged then map Some (range_with_len 0 pages) else Non
 abbrev pub registers_in : DeviceParts → CommandParts → Option Form → List RegisterData
 registers_in device command None = []
 registers_in device command (Some form) =
-    map (λ page. record { code = command.entry.code; page = page; bytes = first_bytes device command form })
+    map (λ page. record {
+      code = command.entry.code;
+      page = page;
+      bytes =
+          first_bytes device (first_page page) command form;
+    })
     (own_pages device.pages command.entry.paged)
 
 -- those in its own form

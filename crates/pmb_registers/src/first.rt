@@ -2,10 +2,10 @@
 //!
 //! Its rows: `tests_devices`, `src/registers/written.rt`; `tests/rows/profile_text.txt`.
 
-ghost use Rattle.std.specs.Prelude.{◌≡◌, ◌+◌, ◌<◌, ◌≤◌, [], ◌++◌, OnOk, None, Some, length, map, take};
+ghost use Rattle.std.specs.Prelude.{◌≡◌, ◌+◌, ◌<◌, ◌≤◌, [], ◌∷◌, ◌++◌, OnOk, None, Some, length, map, take};
 ghost use Rattle.std.specs.List.{flat_map, range_with_len};
 ghost use Rattle.pmb_command.specs.Parts.{CommandParts, command_with};
-ghost use Rattle.pmb_registers.specs.State.{first_bytes, first_bytes_at, registers_of, zeros};
+ghost use Rattle.pmb_registers.specs.State.{first_bytes, first_bytes_at, first_mode, first_page, registers_of, zeros};
 ghost use Rattle.pmb_registers.specs.machine.Registers.{register_data};
 ghost use Rattle.pmb_registers.specs.machine.Places.{ArePlaces, NoneHas, registers_of_some};
 
@@ -45,17 +45,28 @@ fn list_of(bytes: &[u8]) -> ArrayVec<u8, 255>
     list
 }
 
-/// What the register of a code holds at first, in its form: VOUT_MODE the device's mode, any other
-/// what the profile says, or zeros. A code that the device lacks has no register; zeros are returned
-/// for it, and the mode for VOUT_MODE.
-pub fn first_bytes(device: &DeviceProfile, code: u8, form: Form) -> ArrayVec<u8, 255>
-    ensures command { (command : CommandParts) → command_with code device.now.commands ≡ Some command → result.items ≡ first_bytes device.now command form }
-    ensures lacking { command_with code device.now.commands ≡ None → result.items ≡ first_bytes_at device.now code None form }
+/// VOUT_MODE of a page at first, and 0 for a page that the device lacks.
+pub fn first_mode(device: &DeviceProfile, page: u8) -> u8
+    ensures { result ≡ first_mode device.now page }
+{
+    match device.modes().get(usize::from(page)) {
+        Some(mode) => *mode,
+        None => 0,
+    }
+}
+
+/// What the register of a code holds at first on a page, in its form: VOUT_MODE the page's mode, any
+/// other what the profile says for the page, or zeros. A register for all pages begins as page 0
+/// does. A code that the device lacks has no register; zeros are returned for it, and the mode for
+/// VOUT_MODE.
+pub fn first_bytes(device: &DeviceProfile, page: u8, code: u8, form: Form) -> ArrayVec<u8, 255>
+    ensures command { (command : CommandParts) → command_with code device.now.commands ≡ Some command → result.items ≡ first_bytes device.now page command form }
+    ensures lacking { command_with code device.now.commands ≡ None → result.items ≡ first_bytes_at device.now page code None form }
 {
     if code == VOUT_MODE {
-        return list_of(&[device.vout_mode()]);
+        return list_of(&[first_mode(device, page)]);
     }
-    match device.initial(code) {
+    match device.initial(code, page) {
         Some(bytes) => list_of(bytes),
         None => list_of(zeros(form)),
     }
@@ -73,19 +84,37 @@ fn register_of(code: u8, page: Option<u8>, bytes: &[u8]) -> Register
     }
 }
 
+/// Adds the register of a code in a form on one page, or its register for all.
+fn push_register(
+    registers: &mut Vec<Register>,
+    device: &DeviceProfile,
+    code: u8,
+    form: Form,
+    page: Option<u8>,
+) -> Result<(), AllocError>
+    ensures { (command : CommandParts) → command_with code device.now.commands ≡ Some command
+        → OnOk result (map register_data registers.new.items ≡ map register_data registers.old.items
+        ++ record { code = code; page = page; bytes = first_bytes device.now (first_page page) command form } ∷ []) }
+{
+    let bytes = first_bytes(device, page.unwrap_or(0), code, form);
+    registers.push(register_of(code, page, bytes.as_slice()))?;
+    Ok(())
+}
+
 /// Adds a register for each page.
 fn push_pages(
     registers: &mut Vec<Register>,
+    device: &DeviceProfile,
     code: u8,
-    pages: u8,
-    bytes: &[u8],
+    form: Form,
 ) -> Result<(), AllocError>
-    requires { length bytes.now ≤ 255 }
-    ensures { OnOk result (map register_data registers.new.items ≡ map register_data registers.old.items
-        ++ map (λ page. record { code = code; page = page; bytes = bytes.now }) (map Some (range_with_len 0 pages))) }
+    ensures { (command : CommandParts) → command_with code device.now.commands ≡ Some command
+        → OnOk result (map register_data registers.new.items ≡ map register_data registers.old.items
+        ++ map (λ page. record { code = code; page = page; bytes = first_bytes device.now (first_page page) command form })
+        (map Some (range_with_len 0 device.now.pages))) }
 {
-    for page in 0..pages {
-        registers.push(register_of(code, Some(page), bytes))?;
+    for page in 0..device.pages() {
+        push_register(registers, device, code, form, Some(page))?;
     }
     Ok(())
 }
@@ -105,12 +134,10 @@ fn push_registers(
     let Some(form) = register_form(entry.shape) else {
         return Ok(());
     };
-    let bytes = first_bytes(device, code, form);
     if entry.paged {
-        return push_pages(registers, code, device.pages(), bytes.as_slice());
+        return push_pages(registers, device, code, form);
     }
-    registers.push(register_of(code, None, bytes.as_slice()))?;
-    Ok(())
+    push_register(registers, device, code, form, None)
 }
 
 /// Adds the registers of a code that has none yet, and keeps their place.

@@ -26,7 +26,7 @@ mod registers;
 mod reply;
 
 pub use cml_bit::CmlBit;
-pub use first::first_bytes;
+pub use first::{first_bytes, first_mode};
 pub use forms::register_form;
 pub use registers::Registers;
 pub use reply::Reply;

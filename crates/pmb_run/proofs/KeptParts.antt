@@ -1,7 +1,7 @@
 -- What is kept of each part of a profile, by its place: for the loops of `profile_is_kept`,
--- `commands_are_kept` and `command_is_kept`, and the law `some_running`. What holds at each place
--- holds of all parts; the command at a place is the one with its code, so that contracts by code
--- speak of it.
+-- `commands_are_kept` and `initials_are_small`, for `command_is_kept`, and the law `some_running`.
+-- What holds at each place holds of all parts; the command at a place is the one with its code, so
+-- that contracts by code speak of it.
 use Rattle.std.proofs.Common.{◌≡◌, ℕ, zero, suc, ◌<◌, ◌+◌, Option, Some, None, List, [], ◌∷◌, length, refl, ap, subst}
 use Rattle.std.proofs.Common.{◌∙◌, arith, option_map, map, Bool, cond, nat_eq, eq-eqb, true, false, inl, inr}
 use Rattle.std.specs.Prelude.{slice_get, IfSome}
@@ -9,7 +9,7 @@ use Rattle.std.specs.List.{AllByRecursion, IsDistinct, find}
 use Rattle.std.specs.Option.{option_and_then}
 use Rattle.std.proofs.lemmas.Bool.{cases_lt}
 use Rattle.pmb_command.specs.Entry.{EntryParts}
-use Rattle.pmb_command.specs.Parts.{CommandParts, DeviceParts, HaveOwnCodes, command_with, device_with}
+use Rattle.pmb_command.specs.Parts.{CommandParts, DeviceParts, HaveOwnCodes, command_with, device_with, initial_on}
 use Rattle.pmb_command.specs.Wire.{AreByteValues}
 use Rattle.pmb_host.specs.Requests.{KindMakesFormat, MakeFormats}
 use Rattle.pmb_run.specs.Kept.{AreKeptDevices, IsKeptCommand, IsKeptDevice}
@@ -32,6 +32,15 @@ one_place_more P xs n each here k small = elim (cases_lt k n) [
   | inr more ↦
       let same : n ≡ k = omega (arith, small, more) in
       subst (λ (i : ℕ). IfSome (slice_get xs i) P) same here
+]
+
+-- one number more
+pub one_number_more : (P : ℕ → Type 0) (n : ℕ) → ((k : ℕ) → k < n → P k) → P n → (k : ℕ) → k < n + 1 → P k
+one_number_more P n each here k small = elim (cases_lt k n) [
+  | inl less ↦ each k less
+  | inr more ↦
+      let same : n ≡ k = omega (arith, small, more) in
+      subst P same here
 ]
 
 -- a code that is none of some others is not that of the command at a place
@@ -59,7 +68,8 @@ found_there (x ∷ cs) (suc k) c own is =
 
 module _ (cs : List CommandParts) (k : ℕ) (own : HaveOwnCodes cs) (entry : EntryParts)
     (kind : KindMakesFormat entry.kind)
-    (small : IfSome (option_and_then (λ (c : CommandParts). c.initial) (command_with entry.code cs))
+    (small : (page : ℕ) → page < 32
+    → IfSome (option_and_then (λ (c : CommandParts). initial_on page c.initial) (command_with entry.code cs))
     AreByteValues) where
   kept_if : (found : Option CommandParts) → slice_get cs k ≡ found
       → Some entry ≡ option_map (λ (c : CommandParts). c.entry) found → IfSome found IsKeptCommand
@@ -70,8 +80,9 @@ module _ (cs : List CommandParts) (k : ℕ) (own : HaveOwnCodes cs) (entry : Ent
       ∙ found_there cs k c own is in
       record {
         kind = subst (λ (e : EntryParts). KindMakesFormat e.kind) entry_is kind;
-        initial = subst (λ (o : Option CommandParts). IfSome (option_and_then (λ (d : CommandParts). d.initial) o)
-            AreByteValues) found small;
+        initial = λ page few. subst (λ (o : Option CommandParts).
+            IfSome (option_and_then (λ (d : CommandParts). initial_on page d.initial) o) AreByteValues) found
+            (small page few);
       }
 
   -- What is kept of the command at a place, where that has the entry.

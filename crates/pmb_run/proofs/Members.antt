@@ -1,10 +1,10 @@
 -- The devices of a bus with their states, which fit them and hold bytes: at first, and after each
 -- transaction. For the law `some_running`. A transaction that is recorded writes data that fit,
 -- and of PAGE a page or ffh, so that the states of `States` stay good.
-use Rattle.std.proofs.Common.{◌≡◌, ℕ, zero, suc, ◌<◌, ◌⊎◌, inl, inr, Bool, true, false, Option, Some, None, cond, List}
-use Rattle.std.proofs.Common.{[], ◌∷◌, ◌++◌, map, nat_eq, refl, sym, ap, subst, ◌∙◌, arith}
+use Rattle.std.proofs.Common.{◌≡◌, ℕ, zero, suc, ◌+◌, ◌<◌, ◌≤◌, ◌⊎◌, inl, inr, Bool, true, false, Option, Some, None}
+use Rattle.std.proofs.Common.{cond, List, [], ◌∷◌, ◌++◌, map, nat_eq, refl, sym, ap, subst, ◌∙◌, arith}
 use Rattle.std.specs.Prelude.{IfSome}
-use Rattle.std.specs.List.{AllByRecursion, Contains, flat_map}
+use Rattle.std.specs.List.{AllByRecursion, Contains, flat_map, range_with_len, slice_get}
 use Rattle.std.specs.Option.{unwrap_or}
 use Rattle.std.proofs.lemmas.Bool.{cases_eq, cases_lt, eqb-true}
 use Rattle.std.proofs.lemmas.List.Concat.{flat_map-cons}
@@ -12,14 +12,15 @@ use Rattle.pmb_command.specs.declared.form.Form.{Form}
 use Rattle.pmb_command.specs.declared.form.Form.TheVariants.{Zero, One, Two, Four, Eight, Block}
 use Rattle.pmb_command.specs.Bus.{IsBus, IsDevice}
 use Rattle.pmb_command.specs.Fitting.{register_form}
-use Rattle.pmb_command.specs.Parts.{CommandParts, DeviceParts, device_with}
+use Rattle.pmb_command.specs.Parts.{CommandParts, DeviceParts, device_with, initial_on}
 use Rattle.pmb_command.specs.Wire.{AreByteValues}
 use Rattle.pmb_transaction.specs.Body.{forms}
 use Rattle.pmb_transaction.specs.Transaction.{PartData, RefusedData, TransactionData}
 use Rattle.pmb_registers.specs.Answer.{all_pages}
 use Rattle.pmb_registers.specs.Apply.{after_part, after_parts, after_refusal, after_write, apply, bit_of_refused}
 use Rattle.pmb_registers.specs.Apply.{selected_by, with_noted}
-use Rattle.pmb_registers.specs.State.{DeviceState, InState, first_bytes, own_pages, registers_in, registers_of, zeros}
+use Rattle.pmb_registers.specs.State.{DeviceState, InState, first_bytes, first_mode, first_page, own_pages}
+use Rattle.pmb_registers.specs.State.{registers_in, registers_of, zeros}
 use Rattle.pmb_devices.specs.Replies.{IsState}
 use Rattle.pmb_devices.specs.Runs.{first_members}
 use Rattle.pmb_devices.specs.Signal.{all_applied}
@@ -55,10 +56,29 @@ picked : {X : Type 0} (P : X → Type 0) (test : Bool) (a b : X) → P a → P b
 picked P true a b here there = here
 picked P false a b here there = there
 
-on_pages : (code : ℕ) (bytes : List ℕ) (pages : List (Option ℕ)) → AreByteValues bytes
-    → AllByRecursion HoldsBytes (map (λ page. record { code = code; page = page; bytes = bytes }) pages)
-on_pages code bytes [] small = tt
-on_pages code bytes (page ∷ pages) small = (small, on_pages code bytes pages small)
+-- each register holds bytes, where those of each page are bytes
+on_pages : (code : ℕ) (bytes : ℕ → List ℕ) (pages : List (Option ℕ)) → AllByRecursion (λ p. first_page p < 32) pages
+    → ((page : ℕ) → page < 32 → AreByteValues (bytes page))
+    → AllByRecursion HoldsBytes
+    (map (λ page. record { code = code; page = page; bytes = bytes (first_page page) }) pages)
+on_pages code bytes [] few small = tt
+on_pages code bytes (page ∷ pages) few small = (small (first_page page) few.0, on_pages code bytes pages few.1 small)
+
+-- pages are few
+range_few : (a n : ℕ) → a + n ≤ 32 → AllByRecursion (λ p. first_page p < 32) (map Some (range_with_len a n))
+range_few a zero few = tt
+range_few a (suc n) few = (omega (arith, few), range_few (a + 1) n (omega (arith, few)))
+
+own_few : (pages : ℕ) (paged : Bool) → pages ≤ 32 → AllByRecursion (λ p. first_page p < 32) (own_pages pages paged)
+own_few pages true few = range_few 0 pages (omega (arith, few))
+own_few pages false few = (omega arith, tt)
+
+-- a VOUT_MODE at first is a byte
+mode_small : (modes : List ℕ) (page : ℕ) → AllByRecursion (λ mode. mode < 256) modes
+    → unwrap_or (slice_get modes page) 0 < 256
+mode_small [] page small = omega arith
+mode_small (mode ∷ modes) zero small = small.0
+mode_small (mode ∷ modes) (suc page) small = mode_small modes page small.1
 
 all_append : {X : Type 0} (P : X → Type 0) (xs ys : List X) → AllByRecursion P xs → AllByRecursion P ys
     → AllByRecursion P (xs ++ ys)
@@ -70,12 +90,13 @@ module _ (device : DeviceParts) (accepted : IsDevice device) where
       → AllByRecursion HoldsBytes (registers_in device c form)
   command_small c kept None = tt
   command_small c kept (Some form) =
-      let initial = initial_small c.initial form kept.initial in
-      let first : AreByteValues (first_bytes device c form) =
+      on_pages c.entry.code (λ page. first_bytes device page c form) (own_pages device.pages c.entry.paged)
+      (own_few device.pages c.entry.paged accepted.few_pages)
+      (λ page few.
       -- 0x20 is VOUT_MODE
-      picked AreByteValues (nat_eq c.entry.code 0x20) (device.vout_mode ∷ []) (unwrap_or c.initial (zeros form))
-      (accepted.byte, tt) initial in
-      on_pages c.entry.code (first_bytes device c form) (own_pages device.pages c.entry.paged) first
+      picked AreByteValues (nat_eq c.entry.code 0x20) (first_mode device page ∷ [])
+      (unwrap_or (initial_on page c.initial) (zeros form)) (mode_small device.modes page accepted.bytes, tt)
+      (initial_small (initial_on page c.initial) form (kept.initial page few)))
 
   commands_small : (cs : List CommandParts) → AllByRecursion IsKeptCommand cs
       → AllByRecursion HoldsBytes (flat_map (registers_of device) cs)

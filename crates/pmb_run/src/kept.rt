@@ -1,10 +1,10 @@
 //! What the types of a profile's parts say of them. Each function ensures it, and changes nothing.
 
-ghost use Rattle.std.specs.Prelude.{slice_get, IfSome};
+ghost use Rattle.std.specs.Prelude.{◌<◌, ℕ, slice_get, IfSome};
 ghost use Rattle.std.specs.List.{AllByRecursion};
 ghost use Rattle.std.specs.Option.{option_and_then};
 ghost use Rattle.pmb_coefficients.specs.Coefficients.{MakeFormat};
-ghost use Rattle.pmb_command.specs.Parts.{command_with};
+ghost use Rattle.pmb_command.specs.Parts.{command_with, initial_on};
 ghost use Rattle.pmb_command.specs.Wire.{AreByteValues};
 ghost use Rattle.pmb_host.specs.Requests.{KindMakesFormat};
 ghost use Rattle.pmb_run.specs.Kept.{AreKeptDevices, IsKeptCommand, IsKeptDevice};
@@ -38,13 +38,23 @@ fn kind_makes_format(kind: Kind)
     }
 }
 
-/// What the register of a code begins with, where the profile says, is below 256.
-fn initial_is_small(device: &DeviceProfile, code: u8)
-    ensures { IfSome (option_and_then (λ c. c.initial) (command_with code device.now.commands)) AreByteValues }
+/// What the register of a code begins with on a page, where the profile says, is below 256.
+fn initial_is_small(device: &DeviceProfile, code: u8, page: u8)
+    ensures { IfSome (option_and_then (λ c. initial_on page c.initial) (command_with code device.now.commands)) AreByteValues }
 {
-    match device.initial(code) {
+    match device.initial(code, page) {
         Some(bytes) => bytes_are_small(bytes),
         None => {}
+    }
+}
+
+/// What it begins with on each page is.
+fn initials_are_small(device: &DeviceProfile, code: u8)
+    ensures { (page : ℕ) → page < 32
+        → IfSome (option_and_then (λ c. initial_on page c.initial) (command_with code device.now.commands)) AreByteValues }
+{
+    for page in 0u8..32 {
+        initial_is_small(device, code, page);
     }
 }
 
@@ -56,7 +66,7 @@ fn command_is_kept(device: &DeviceProfile, index: usize)
     match device.entry_at(index) {
         Some(entry) => {
             kind_makes_format(entry.kind);
-            initial_is_small(device, entry.code);
+            initials_are_small(device, entry.code);
         }
         None => {}
     }

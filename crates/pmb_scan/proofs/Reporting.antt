@@ -2,7 +2,8 @@
 -- ends a packet, or it is refused and then passed over. For `report`, `pass_over`, `pass_blank` and
 -- `truncation`. The spans so far are followed by one more, and whatever follows reads on from
 -- there.
-use Rattle.std.proofs.Common.{◌≡◌, ℕ, ◌+◌, Result, Ok, Err, List, [], ◌∷◌, ◌++◌, filter, length, refl, sym, ap, ◌∙◌}
+use Rattle.std.proofs.Common.{◌≡◌, ◌↔◌, ℕ, ◌+◌, Result, Ok, Err, None, List, [], ◌∷◌, ◌++◌, filter, length, refl, sym}
+use Rattle.std.proofs.Common.{ap, ◌∙◌}
 use Rattle.std.proofs.Common.{subst, arith, append_assoc, append-nil}
 use Rattle.std.specs.Result.{result_err}
 use Rattle.std.proofs.lemmas.List.{length_push}
@@ -17,16 +18,22 @@ use Rattle.pmb_reader.specs.declared.refusal.Refusal.{Refusal}
 use Rattle.pmb_reader.specs.Reader.{Standing, Open, Held, Passing, ReaderStandsAt, ReaderTakes, ReaderFinishes}
 use Rattle.pmb_reader.specs.Reader.{behind_passed, last_read}
 use Rattle.pmb_reader.specs.Refusal.{refusal_data}
+use Rattle.pmb_transaction.specs.Capture.{HasNoStop, Viable}
 use Rattle.pmb_transaction.specs.Packet.{Packet}
-use Rattle.pmb_transaction.specs.Reading.{RefusalData}
+use Rattle.pmb_transaction.specs.Reading.{IsUnderWay, RefusalData}
 use Rattle.pmb_transaction.specs.Transaction.{TransactionData}
 use Rattle.pmb_spans.specs.Spans.{Span, ReadSpan, RefusedSpan, TruncatedSpan, Spans, SpansFrom, is_whole}
-use Rattle.pmb_scan.specs.Reached.{Reached, IsReading, LeadsOn, EndsWith, SpansBehind, behind_bytes, behind_event}
-use Rattle.pmb_scan.specs.Reached.{behind_whole, standing_after}
+use Rattle.pmb_scan.specs.Reached.{Reached, IsReading, LeadsOn, EndsWith, SpansBehind, behind_bytes}
+use Rattle.pmb_scan.specs.Reached.{MayGoOn, behind_whole, standing_after}
 use Rattle.pmb_scan.specs.Scan.{end_spans}
 use Rattle.pmb_scan.specs.machine.Standing.{ReaderReached}
-use Rattle.pmb_scan.specs.machine.Reported.{ReportsAs, EndsPacket, IsRefused}
+use Rattle.pmb_scan.specs.machine.Reported.{ReportsAs, EndsPacket, GoesOn, IsRefused}
 use Rattle.pmb_scan.proofs.Passing.{OthersPass, after_none, after_one, after_stop}
+
+-- A law of `pmb_transaction`: a packet under way holds no STOP.
+abbrev pub HoldNoStop : Type 0
+HoldNoStop = (profile : List DeviceParts) (events : List Event) → Viable profile events
+    → (IsUnderWay profile events ↔ HasNoStop events)
 
 -- ---- events that are passed over
 
@@ -79,6 +86,15 @@ spans_then profile events rest event spans others span reads =
 -- ---- an event more
 
 -- it goes on
+-- where a packet is read it is no STOP
+goes_on : HoldNoStop → (profile : List DeviceParts) (standing : Standing) (event : Event) (after : Reader)
+    → ReaderTakes profile standing event answers.Continues after → MayGoOn standing event
+goes_on hold profile (Open n events) event after takes =
+    λ is. (hold profile (events ++ event ∷ []) takes.0.viable).0 takes.0 events []
+    (ap (λ (e : Event). events ++ e ∷ []) is)
+goes_on hold profile (Held n refusal) event after takes = absurd takes
+goes_on hold profile (Passing n) event after takes = tt
+
 reads_more : OthersPass → (reached : Reached) (standing : Standing) (event : Event) (after : Reader)
     → reached.standing ≡ standing → LeadsOn reached
     → ReaderTakes reached.profile standing event answers.Continues after
@@ -96,18 +112,21 @@ reads_more others_pass reached (Held n refusal) event after same on takes = absu
 reads_more others_pass reached (Passing n) event after same on takes =
     (takes, passed_reading n event, passed_leads others_pass reached.profile n event)
 
-reports_more : OthersPass → (reached : Reached) (event : Event) (after : Reader) → LeadsOn reached
+reports_more : HoldNoStop → OthersPass → (reached : Reached) (event : Event) (after : Reader) → LeadsOn reached
     → ReaderTakes reached.profile reached.standing event answers.Continues after
-    → ReaderReached after (behind_event reached event)
-reports_more others_pass reached event after on takes =
+    → GoesOn reached event after
+reports_more hold others_pass reached event after on takes =
     let step = reads_more others_pass reached reached.standing event after refl on takes in record {
-      stands = step.0;
+      may = goes_on hold reached.profile reached.standing event after takes;
       reads = record {
-        reading = step.1;
-        leads = λ rest others reads. subst (λ (es : List Event). Spans reached.profile es (reached.spans ++ others))
-            (sym (append_assoc reached.events (event ∷ []) rest))
-            (on.leads (event ∷ rest) others (step.2 rest others reads));
-        whole = on.whole;
+        stands = step.0;
+        reads = record {
+          reading = step.1;
+          leads = λ rest others reads. subst (λ (es : List Event). Spans reached.profile es (reached.spans ++ others))
+              (sym (append_assoc reached.events (event ∷ []) rest))
+              (on.leads (event ∷ rest) others (step.2 rest others reads));
+          whole = on.whole;
+        };
       };
     }
 
@@ -182,14 +201,15 @@ reports_refusal others_pass reached (Held n kept) event refusal held after same 
 reports_refusal others_pass reached (Passing n) event refusal held after same on takes passes = absurd takes
 
 -- It is used, whichever it does.
-pub reports_used : OthersPass → (reached : Reached) (event : Event) (took : Took) (after : Reader) → LeadsOn reached
+pub reports_used : HoldNoStop → OthersPass → (reached : Reached) (event : Event) (took : Took) (after : Reader) →
+    LeadsOn reached
     → ((refusal : Refusal) → took ≡ answers.Refused refusal → ⊥)
     → ReaderTakes reached.profile reached.standing event took after → ReportsAs reached event took after
-reports_used others_pass reached event answers.Continues after on used takes =
-    reports_more others_pass reached event after on takes
-reports_used others_pass reached event answers.Packet after on used takes =
+reports_used hold others_pass reached event answers.Continues after on used takes =
+    reports_more hold others_pass reached event after on takes
+reports_used hold others_pass reached event answers.Packet after on used takes =
     reports_packet reached reached.standing event after refl on takes
-reports_used others_pass reached event (answers.Refused refusal) after on used takes = absurd (used refusal refl)
+reports_used hold others_pass reached event (answers.Refused refusal) after on used takes = absurd (used refusal refl)
 
 -- ---- a whole packet at once
 
@@ -242,6 +262,15 @@ ends reached (Passing n) (Ok done) same on finishes =
     ends_so reached [] on (subst (λ (s : Standing). SpansBehind reached.profile s [] []) (sym same)
     (after_none reached.profile n)) refl
 ends reached (Passing n) (Err refusal) same on finishes = absurd finishes
+
+-- none is refused only between packets, and while events are passed over
+pub none_inside : (standing : Standing) (profile : List DeviceParts) (result : Result Unit Refusal) (n : ℕ)
+    (front : List Event) → standing ≡ Open n front → result_err result ≡ None
+    → ReaderFinishes profile standing result → front ≡ []
+none_inside (Open m events) profile (Ok done) n front same none finishes = cc (same, finishes)
+none_inside (Open m events) profile (Err refusal) n front same none finishes = absurd (cc none)
+none_inside (Held m kept) profile result n front same none finishes = absurd (cc same)
+none_inside (Passing m) profile result n front same none finishes = absurd (cc same)
 
 -- ---- bytes more
 

@@ -1,6 +1,7 @@
 -- How far a capture was scanned, and what each visit adds.
-use Rattle.std.specs.Prelude.{◌≡◌, ℕ, ◌+◌, List, [], ◌∷◌, ◌++◌, filter, length}
+use Rattle.std.specs.Prelude.{◌≡◌, ◌≢◌, ℕ, ◌+◌, List, [], ◌∷◌, ◌++◌, filter, length}
 use Rattle.pmb_bus.specs.declared.event.Event.{Event}
+use Rattle.pmb_bus.specs.declared.event.Event.TheVariants.{Stop}
 use Rattle.pmb_bus.specs.Event.{canonical_text}
 use Rattle.pmb_command.specs.Parts.{DeviceParts}
 use Rattle.pmb_reader.specs.Reader.{Standing, Open, Held, Passing, behind_passed}
@@ -43,6 +44,13 @@ behind_event reached event = record reached {
   standing =
       standing_after reached.standing event;
 }
+
+-- Where a packet is read such an event is no STOP: that ends the packet, or is refused. None comes
+-- while a refusal is held.
+abbrev pub MayGoOn : Standing → Event → Type 0
+MayGoOn (Open n events) event = event ≢ Stop
+MayGoOn (Held n refusal) event = ⊥
+MayGoOn (Passing n) event = Unit {0}
 
 -- An event that ends a packet, which began after n events with those of `front`.
 abbrev pub behind_packet : Reached → ℕ → List Event → Event → TransactionData → Reached

@@ -16,7 +16,7 @@ ghost use Rattle.pmb_transaction.specs.Reading.{RefusalData};
 
 use pmb_bus::Event;
 use pmb_reader::{Reader, Took};
-use pmb_transaction::laws::passing_goes_on;
+use pmb_transaction::laws::{packets_under_way, passing_goes_on};
 
 /// Hands an event to a reader, and after a refusal has it pass over events, the refused one first.
 #[inline(always)]
@@ -24,6 +24,7 @@ pub(crate) fn report(reader: &mut Reader, event: Event) -> Took
     ensures { (reached : Reached) → ReaderReached reader.old reached → ReportsAs reached event result reader.new }
 {
     passing_goes_on();
+    packets_under_way();
     let took = reader.take(event);
     if let Took::Refused(_) = took {
         pass_over(reader, event);

@@ -201,10 +201,12 @@ impl<'p> Scan<'p> {
         }
     }
 
-    /// What the events come to if none follows: the refusal of an end inside a packet, if there is
-    /// one. Nothing changes.
+    /// What the events come to if none follows: the refusal of an end inside a packet, where one is
+    /// under way. Nothing changes.
     pub fn truncation(&self) -> Option<Refusal>
-        ensures { (reached : Reached) → HasRead self.now reached → Truncates reached result }
+        ensures ends { (reached : Reached) → HasRead self.now reached → Truncates reached result }
+        ensures none { (reached : Reached) (n : ℕ) (front : List BusEvent) → HasRead self.now reached → reached.standing ≡ Open n front
+            → result ≡ None → front ≡ [] }
     {
         self.reader.finish().err()
     }
@@ -225,10 +227,7 @@ impl<'p> Scan<'p> {
         ensures failed { WriterTells (W.told writer.old) (W.told writer.new) result }
     {
         match report(&mut self.reader, event) {
-            Took::Continues => {
-                visitor.visit_event(event);
-                Ok(())
-            }
+            Took::Continues => visitor.visit_event(event, waiting, writer),
             Took::Packet => self.visit_packet(visitor, waiting, writer),
             Took::Refused(refusal) => visit_refusal(event, refusal, visitor, waiting, writer),
         }

@@ -9,7 +9,7 @@ ghost use Rattle.pmb_io.specs.Calls.{WriterTells};
 ghost use Rattle.pmb_io.specs.Engines.{PutsOut};
 ghost use Rattle.pmb_reader.specs.Reader.{Open};
 ghost use Rattle.pmb_reader.specs.Refusal.{refusal_data};
-ghost use Rattle.pmb_scan.specs.Reached.{Reached, IsWhole, behind_bytes, behind_event, behind_packet, behind_refusal, behind_whole};
+ghost use Rattle.pmb_scan.specs.Reached.{Reached, IsWhole, MayGoOn, behind_bytes, behind_event, behind_packet, behind_refusal, behind_whole};
 ghost use Rattle.pmb_transaction.specs.Packet.{Packet};
 ghost use Rattle.pmb_transaction.specs.Reading.{RefusedAt};
 ghost use Rattle.pmb_transaction.specs.Transaction.{transaction_data};
@@ -19,7 +19,8 @@ use pmb_io::{RunFault, Sink, Waiting};
 use pmb_reader::Refusal;
 use pmb_transaction::Transaction;
 
-/// Is told what a scan comes upon, in its order, and may put out a text for each packet and refusal.
+/// Is told what a scan comes upon, in its order, and may put out a text for each event, packet and
+/// refusal.
 ///
 /// Bytes come first, then what their word's end comes to: an event, a packet or a refusal. So the text
 /// up to there spells the events with this one: the word of this event is the text's last. A canonical
@@ -36,9 +37,17 @@ pub trait Visitor {
 
     /// An event came that ends no packet: one of the packet under way, or one that is passed over,
     /// which comes after a refusal, up to and including the next STOP.
-    fn visit_event(&mut self, event: Event)
-        ensures { (start : Self) (reached : Reached) (text : List ℕ) → Stands start self.old reached text
-            → Spells reached.text (reached.events ++ event ∷ []) → Stands start self.new (behind_event reached event) text };
+    fn visit_event<W: Sink>(
+        &mut self,
+        event: Event,
+        waiting: &mut Waiting,
+        writer: &mut W,
+    ) -> Result<(), RunFault>
+        ensures visits { (start : Self) (reached : Reached) (text : List ℕ) → Stands start self.old reached text
+            → Spells reached.text (reached.events ++ event ∷ []) → MayGoOn reached.standing event
+            → OnOk result (PutsOut (λ more. Stands start self.new (behind_event reached event) (text ++ more))
+            (W.told writer.old).held waiting.old.items (W.told writer.new).held waiting.new.items) }
+        ensures failed { WriterTells (W.told writer.old) (W.told writer.new) result };
 
     /// An event came, a STOP, and ends the packet of this transaction.
     fn visit_packet<W: Sink>(

@@ -1,12 +1,17 @@
 -- What holds of each command that a device may have, and of each device of a bus: it holds with
--- one more of them, and of the one that a search finds. For `read_devices`, `read_next`,
--- `standard_ones` and `DeviceProfile::entry` and `initial`.
-use Rattle.std.proofs.Common.{◌++◌, List, [], ◌∷◌, Bool, true, false, cond, Some, nat_eq}
-use Rattle.std.specs.Prelude.{IfSome}
-use Rattle.std.specs.List.{AllByRecursion, find}
-use Rattle.pmb_command.specs.Bus.{IsCommand}
-use Rattle.pmb_command.specs.Parts.{CommandParts}
-use Rattle.pmb_table.specs.Profile.{put}
+-- one more of them, and of the one that a search finds. For `read_devices`, `read_device`, `read_next`,
+-- `first_commands`, `standard_ones` and `DeviceProfile::entry` and `initial`.
+use Rattle.std.proofs.Common.{◌≡◌, ℕ, ◌++◌, List, [], ◌∷◌, Bool, true, false, cond, Some, None, map, nat_eq, subst, sym}
+use Rattle.std.proofs.Common.{zero, suc, Option, Result, Ok, Err, not, ◌||◌}
+use Rattle.std.specs.Prelude.{IfOk, IfSome, option_map, slice_get}
+use Rattle.std.specs.declared.alloc.AllocError.{AllocError}
+use Rattle.std.specs.List.{AllByRecursion, filter_map, find, range_with_len}
+use Rattle.pmb_command.specs.Bus.{AreInitial, HasItemForEach, IsCommand, IsInitial}
+use Rattle.pmb_command.specs.Commands.{standard_entry}
+use Rattle.pmb_command.specs.Entry.{EntryParts}
+use Rattle.pmb_command.specs.Parts.{CommandParts, InitialParts, Same, Each, initial_on}
+use Rattle.pmb_table.specs.Profile.{put, standard_commands}
+use Rattle.pmb_table.specs.machine.CommandMap.{IsCommandOf}
 
 -- what holds of all and of one more holds of all of them
 pub All-push : {X : Type 0} (P : X → Type 0) (xs : List X) (x : X) → AllByRecursion P xs → P x
@@ -23,12 +28,70 @@ All-find P p (x ∷ xs) all = by (p x) (All-find P p xs all.1)
     by true rest = all.0
     by false rest = rest
 
--- and a command that is put among commands that a device may have leaves them so
-pub IsCommand-put : (c : CommandParts) (cs : List CommandParts) → IsCommand c → AllByRecursion IsCommand cs
-    → AllByRecursion IsCommand (put c cs)
-IsCommand-put c [] is all = (is, tt)
-IsCommand-put c (x ∷ xs) is all = by (nat_eq c.entry.code x.entry.code) (IsCommand-put c xs is all.1)
+-- what holds of all by one rule holds of them by another that follows from it
+pub All-map : {X : Type 0} (P Q : X → Type 0) (xs : List X) → ((x : X) → P x → Q x) → AllByRecursion P xs
+    → AllByRecursion Q xs
+All-map P Q [] follows all = tt
+All-map P Q (x ∷ xs) follows all = (follows x all.0, All-map P Q xs follows all.1)
+
+-- and a command that is put among commands of which it holds leaves them so
+pub All-put : (P : CommandParts → Type 0) (c : CommandParts) (cs : List CommandParts) → P c → AllByRecursion P cs
+    → AllByRecursion P (put c cs)
+All-put P c [] is all = (is, tt)
+All-put P c (x ∷ xs) is all = by (nat_eq c.entry.code x.entry.code) (All-put P c xs is all.1)
   where
-    by : (b : Bool) → AllByRecursion IsCommand (put c xs) → AllByRecursion IsCommand (cond b (c ∷ xs) (x ∷ put c xs))
+    by : (b : Bool) → AllByRecursion P (put c xs) → AllByRecursion P (cond b (c ∷ xs) (x ∷ put c xs))
     by true rest = (is, all.1)
     by false rest = (all.0, rest)
+
+-- a command of a device is one that a device may have, and its items go with the pages
+pub commands_of : (pages : ℕ) (cs : List CommandParts) → AllByRecursion (IsCommandOf pages) cs
+    → AllByRecursion IsCommand cs
+commands_of pages cs all = All-map (IsCommandOf pages) IsCommand cs (λ c is. is.command) all
+
+pub items_of : (pages : ℕ) (cs : List CommandParts) → AllByRecursion (IsCommandOf pages) cs
+    → AllByRecursion (λ c. HasItemForEach pages c.initial) cs
+items_of pages cs all = All-map (IsCommandOf pages) (λ c. HasItemForEach pages c.initial) cs (λ c is. is.items) all
+
+-- what a command holds at first on a page
+pub initial_at : (e : EntryParts) (page : ℕ) (initial : InitialParts) → AreInitial e initial
+    → IfSome (initial_on page (Some initial)) (IsInitial e)
+initial_at e page (Same bytes) is = is
+initial_at e page (Each items) are = at page items are.1
+  where
+    at : (i : ℕ) (xs : List (List ℕ)) → AllByRecursion (IsInitial e) xs → IfSome (slice_get xs i) (IsInitial e)
+    at i [] all = tt
+    at zero (x ∷ xs) all = all.0
+    at (suc i) (x ∷ xs) all = at i xs all.1
+
+-- what holds of what is seen of a value holds of the value, seen so
+pub IfSome-map : {X Y : Type 0} (f : X → Y) (P : Y → Type 0) (o : Option X) → IfSome (option_map f o) P
+    → IfSome o (λ x. P (f x))
+IfSome-map f P (Some x) holds = holds
+IfSome-map f P None holds = tt
+
+-- the standard commands have no items
+bare_commands : (pages : ℕ) (es : List EntryParts)
+    → AllByRecursion IsCommand (map (λ e. record { entry = e; initial = None }) es)
+    → AllByRecursion (IsCommandOf pages) (map (λ e. record { entry = e; initial = None }) es)
+bare_commands pages [] all = tt
+bare_commands pages (e ∷ es) all = (record { command = all.0; items = tt }, bare_commands pages es all.1)
+
+pub standard_commands_of : (pages : ℕ) (cs : List CommandParts) → cs ≡ standard_commands → AllByRecursion IsCommand cs
+    → AllByRecursion (IsCommandOf pages) cs
+unfolding standard_commands
+standard_commands_of pages cs is all =
+    subst (AllByRecursion (IsCommandOf pages)) (sym is)
+    (bare_commands pages (filter_map standard_entry (range_with_len 0 256)) (subst (AllByRecursion IsCommand) is all))
+
+-- which go with any number of pages, where there is memory for them
+pub first_are_of : (r : Result (List CommandParts) AllocError) → IfOk r (λ cs. cs ≡ standard_commands)
+    → IfOk r (λ cs. AllByRecursion IsCommand cs)
+    → IfOk r (λ cs. (pages : ℕ) → AllByRecursion (IsCommandOf pages) cs)
+first_are_of (Ok cs) is all = λ pages. standard_commands_of pages cs is all
+first_are_of (Err e) is all = tt
+
+-- modes that fit are the same where there is one for all pages
+pub same_where_one : (one same : Bool) → (not one || same) ≡ true → one ≡ true → same ≡ true
+same_where_one true same fit is = fit
+same_where_one false same fit is = cc

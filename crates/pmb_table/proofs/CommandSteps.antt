@@ -21,14 +21,14 @@ item_at vs i v within is = items_view-drop vs i v within ∙ ap (λ w. item (vie
     (sym is)
 
 -- a fault in a table is that of all that are left
-pub fault_of_one : (n : ℕ) (taken : List ℕ) (commands : List CommandParts) (d : Data) (ds : Items)
-    (fault : ProfileFault) → Err fault ≡ after_one n (taken, commands) d
-    → Err fault ≡ commands_after n taken commands (item d ds)
-fault_of_one n taken commands d ds fault = by (placed (at_command n (length taken)) (command_of taken d))
+pub fault_of_one : (n pages : ℕ) (taken : List ℕ) (commands : List CommandParts) (d : Data) (ds : Items)
+    (fault : ProfileFault) → Err fault ≡ after_one n pages (taken, commands) d
+    → Err fault ≡ commands_after n pages taken commands (item d ds)
+fault_of_one n pages taken commands d ds fault = by (placed (at_command n (length taken)) (command_of pages taken d))
   where
     by : (r : Result CommandParts ProfileFault)
         → ◌≡◌ {A = Result Taken ProfileFault} (Err fault)
         (bind r (λ c. Ok (taken ++ c.entry.code ∷ [], put c commands)))
-        → Err fault ≡ bind r (λ c. commands_after n (taken ++ c.entry.code ∷ []) (put c commands) ds)
+        → Err fault ≡ bind r (λ c. commands_after n pages (taken ++ c.entry.code ∷ []) (put c commands) ds)
     by (Ok c) e = cc
     by (Err f) e = cc

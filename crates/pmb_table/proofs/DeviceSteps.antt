@@ -1,30 +1,64 @@
--- One more device, and all that are left: for `read_devices`, `array_rule` and `places_of`. After
+-- One more device, and all that are left: for `read_devices` and `places_of`. After
 -- a device that was read the values after it go on from there; its address is new, and its place
 -- is kept.
-use Rattle.std.proofs.Common.{◌≡◌, ℕ, ◌+◌, ◌<◌, ◌≤◌, List, [], ◌∷◌, ◌++◌, map, set, take, Ok, Some, option_map, suc}
-use Rattle.std.proofs.Common.{length, refl, ap, sym, subst, ◌∙◌, arith}
-use Rattle.std.specs.Prelude.{slice_get}
+use Rattle.std.proofs.Common.{◌≡◌, ℕ, ◌+◌, ◌<◌, ◌≤◌, List, [], ◌∷◌, ◌++◌, map, set, take, Result, Ok, Err}
+use Rattle.std.proofs.Common.{Some, option_map, false, length, ap, sym, subst, ◌∙◌, arith}
+use Rattle.std.specs.Prelude.{IfErr, slice_get}
+use Rattle.std.specs.Result.{is_ok}
 use Rattle.std.proofs.lemmas.Cmp.{nat_eq_equiv}
 use Rattle.std.proofs.lemmas.List.{length-map, length-take-le, map-append, take-map, take_more}
 use Rattle.std.proofs.lemmas.Map.Keys.{IsDistinct-push}
 use Rattle.std.proofs.lemmas.Option.{get_or_from_slice_get, slice_get-map, slice_get_within}
 use Rattle.toml.specs.Data.{Data, Items, item}
 use Rattle.pmb_command.specs.Parts.{DeviceParts}
+use Rattle.pmb_keys.specs.DeviceKeys.{DeviceKeys}
+use Rattle.pmb_keys.specs.declared.fault.FaultKind.{FaultKind}
 use Rattle.pmb_keys.specs.Rules.{bind}
+use Rattle.pmb_table.specs.declared.fault.ProfileFault.{ProfileFault}
 use Rattle.pmb_command.specs.Parts.{HaveOwnAddresses}
 use Rattle.pmb_command.specs.Parts.{IsNew}
-use Rattle.pmb_table.specs.Profile.{device_of, devices_after, item_count}
+use Rattle.pmb_table.specs.Profile.{at_device, device_of, devices_after, keys_of, needs_memory, placed}
 use Rattle.pmb_table.specs.machine.Places.{ArePlaces}
 use Rattle.pmb_table.specs.machine.Profile.{addresses_of}
 use Rattle.pmb_table.proofs.Places.{ArePlaces-push, new_to_earlier}
-use Rattle.toml.specs.View.{items_view}
-use Rattle.toml.specs.declared.value.Value.{Value}
 
 -- after a device that was read, the values after it go on from there
-pub rest_of_device : (before : List DeviceParts) (d : Data) (ds : Items) (device : DeviceParts)
-    → Ok device ≡ device_of before d
-    → devices_after (before ++ device ∷ []) ds ≡ devices_after before (item d ds)
-rest_of_device before d ds device read = ap (λ r. bind r (λ x. devices_after (before ++ x ∷ []) ds)) read
+pub rest_of_device : (ignored : List ℕ) (before : List DeviceParts) (d : Data) (ds : Items) (device : DeviceParts)
+    → Ok device ≡ device_of ignored before d
+    → devices_after ignored (before ++ device ∷ []) ds ≡ devices_after ignored before (item d ds)
+rest_of_device ignored before d ds device read =
+    ap (λ r. bind r (λ x. devices_after ignored (before ++ x ∷ []) ds)) read
+
+-- a device that was read took memory
+pub read_needs : {P : Type 0} (ignored : List ℕ) (before : List DeviceParts) (d : Data) (ds : Items)
+    (device : DeviceParts) → needs_memory ignored before (item d ds) ≡ false
+    → IfErr (keys_of ignored before d)
+    (λ what. ◌≡◌ {A = Result DeviceParts ProfileFault} (Ok device) (Err (at_device (length before) what)))
+    → P
+read_needs {P} ignored before d ds device none told = by (keys_of ignored before d) none told
+  where
+    by : (r : Result DeviceKeys FaultKind) → is_ok r ≡ false
+        → IfErr r
+        (λ what. ◌≡◌ {A = Result DeviceParts ProfileFault} (Ok device) (Err (at_device (length before) what))) → P
+    by (Ok keys) none told = cc
+    by (Err what) none told = cc
+
+-- a fault that was told without memory is that of all that are left
+pub fault_without_memory : (ignored : List ℕ) (before : List DeviceParts) (d : Data) (ds : Items)
+    (fault : ProfileFault) → needs_memory ignored before (item d ds) ≡ false
+    → IfErr (keys_of ignored before d)
+    (λ what. ◌≡◌ {A = Result DeviceParts ProfileFault} (Err fault) (Err (at_device (length before) what)))
+    → Err fault ≡ devices_after ignored before (item d ds)
+fault_without_memory ignored before d ds fault none told =
+    by (keys_of ignored before d) _ (λ device. devices_after ignored (before ++ device ∷ []) ds) none told
+  where
+    by : (r : Result DeviceKeys FaultKind) (made : DeviceKeys → Result DeviceParts ProfileFault)
+        (rest : DeviceParts → Result (List DeviceParts) ProfileFault) → is_ok r ≡ false
+        → IfErr r
+        (λ what. ◌≡◌ {A = Result DeviceParts ProfileFault} (Err fault) (Err (at_device (length before) what)))
+        → Err fault ≡ bind (bind (placed (at_device (length before)) r) made) rest
+    by (Ok keys) made rest none told = cc
+    by (Err what) made rest none told = cc
 
 -- one more device with an address of its own
 pub HaveOwnAddresses-push : (devices : List DeviceParts) (device : DeviceParts) → HaveOwnAddresses devices
@@ -32,11 +66,6 @@ pub HaveOwnAddresses-push : (devices : List DeviceParts) (device : DeviceParts) 
 HaveOwnAddresses-push devices device own new =
     rw (map-append (λ d. d.address) devices (device ∷ []))
     (IsDistinct-push nat_eq_equiv (map (λ d. d.address) devices) device.address own new)
-
--- how many values there are
-pub item_count-view : (vs : List Value) → item_count (items_view vs) ≡ length vs
-item_count-view [] = refl
-item_count-view (v ∷ vs) = ap suc (item_count-view vs)
 
 -- ---- the places of devices
 

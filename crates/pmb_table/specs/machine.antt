@@ -3,3 +3,4 @@ pub mod CommandMap
 pub mod Places
 pub mod Profile
 pub mod StandardCommands
+pub mod Top

@@ -4,13 +4,15 @@
 //! where its command stands. A code without a command has a place too, which says nothing: `get`
 //! looks whether the command there has the code.
 
-ghost use Rattle.std.specs.Prelude.{◌≡◌, [], length, map, option_map, slice_get, IfOk, OnOk, OnErr};
+ghost use Rattle.std.specs.Prelude.{◌≡◌, None, [], length, map, nat_eq, option_map, slice_get, IfOk, OnOk, OnErr};
+ghost use Rattle.indexmap.specs.IndexMap.{insert_entry};
 ghost use Rattle.pmb_keys.specs.CommandView.{command_parts};
 ghost use Rattle.pmb_command.specs.Parts.{HaveOwnCodes, command_with};
 ghost use Rattle.pmb_table.specs.Profile.{put};
 ghost use Rattle.pmb_table.specs.machine.CommandMap.{bare_entry, without_initial};
 
 use indexmap::IndexMap;
+use pmb_command::Entry;
 use pmb_keys::Command;
 use std::alloc::{AllocError, Global};
 use std::marker::Model;
@@ -36,6 +38,18 @@ impl Model for CommandMap {
     ghost invariant = { λ m. IsFoundByCode m.commands.entries m.places };
 }
 
+/// Puts a command at its code, without the bytes that it has at first.
+fn insert_bare(copy: &mut IndexMap<u8, Command>, code: u8, entry: Entry) -> Result<(), AllocError>
+    ensures { OnOk result (copy.new.entries ≡ insert_entry nat_eq copy.old.entries code (record { entry = entry; initial = None })) }
+{
+    let bare = Command {
+        entry,
+        initial: None,
+    };
+    copy.insert(code, bare)?;
+    Ok(())
+}
+
 /// A copy of commands at their codes, without the bytes that they have at first.
 fn bare_copy(
     alloc: Global,
@@ -45,11 +59,7 @@ fn bare_copy(
 {
     let mut copy = IndexMap::with_capacity(alloc, commands.len())?;
     for (code, command) in commands {
-        let bare = Command {
-            entry: command.entry,
-            initial: None,
-        };
-        copy.insert(*code, bare)?;
+        insert_bare(&mut copy, *code, command.entry)?;
     }
     Ok(copy)
 }

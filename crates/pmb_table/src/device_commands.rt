@@ -2,12 +2,11 @@
 //!
 //! Its rows: `tests_commands`, `src/parts.rt`, `src/sample.rt`; `tests/rows/profiles.txt`.
 
-ghost use Rattle.std.specs.Prelude.{◌≡◌, ◌⊎◌, ◌≤◌, [], length, Ok, Err, IfOk, if◌then◌else◌};
+ghost use Rattle.std.specs.Prelude.{ℕ, ◌≡◌, ◌⊎◌, ◌≤◌, [], length, Ok, Err, IfOk, if◌then◌else◌};
 ghost use Rattle.std.specs.List.{AllByRecursion};
-ghost use Rattle.pmb_command.specs.Bus.{IsCommand};
 ghost use Rattle.toml.specs.View.{view, items_view};
 ghost use Rattle.pmb_keys.specs.Rules.{bind};
-ghost use Rattle.pmb_table.specs.machine.CommandMap.{AreTaken, Taken, after_one};
+ghost use Rattle.pmb_table.specs.machine.CommandMap.{AreTaken, IsCommandOf, Taken, after_one};
 ghost use Rattle.pmb_command.specs.Parts.{HaveOwnCodes, IsNew};
 ghost use Rattle.pmb_keys.specs.CommandRules.{command_of};
 ghost use Rattle.pmb_keys.specs.CommandView.{command_parts};
@@ -30,7 +29,7 @@ pub(crate) fn first_commands(
 ) -> Result<CommandMap, AllocError>
     ensures commands { IfOk result (λ commands. commands ≡ (if has_standard then standard_commands else [])) }
     ensures own_codes { IfOk result HaveOwnCodes }
-    ensures accepted { IfOk result (λ commands. AllByRecursion IsCommand commands) }
+    ensures accepted { IfOk result (λ commands. (pages : ℕ) → AllByRecursion (IsCommandOf pages) commands) }
 {
     if has_standard {
         standard.commands(alloc)
@@ -46,19 +45,21 @@ fn code_of(command: &Command) -> u8
     command.entry.code
 }
 
-/// Reads a table of a device, where the tables before it have the codes `taken`; its fault lies there.
+/// Reads a table of a device with so many pages, where the tables before it have the codes `taken`; its
+/// fault lies there.
 fn read_placed(
     alloc: Global,
     device: u8,
+    pages: u8,
     value: &Value,
     taken: &[u8],
 ) -> Result<Command, ProfileFault>
     requires { length taken.now ≤ 256 }
-    ensures read { (result ≡ Err (at_top FaultKind.OutOfMemory)) ⊎ (bind result (λ c. Ok (command_parts c)) ≡ placed (at_command device (length taken.now)) (command_of taken.now (view value.now))) }
-    ensures accepted { IfOk result (λ c. IsCommand (command_parts c)) }
+    ensures read { (result ≡ Err (at_top FaultKind.OutOfMemory)) ⊎ (bind result (λ c. Ok (command_parts c)) ≡ placed (at_command device (length taken.now)) (command_of pages taken.now (view value.now))) }
+    ensures accepted { IfOk result (λ c. IsCommandOf pages (command_parts c)) }
     ensures own_code { IfOk result (λ c. IsNew c.entry.code taken.now) }
 {
-    match read_command(alloc, value, taken) {
+    match read_command(alloc, value, pages, taken) {
         Ok(command) => Ok(command),
         Err(what) => Err(place::in_command(device, taken.len() as u16, what)),
     }
@@ -68,17 +69,18 @@ fn read_placed(
 fn read_next(
     alloc: Global,
     device: u8,
+    pages: u8,
     taken: &mut ArrayVec<u8, 256>,
     commands: &mut CommandMap,
     value: &Value,
 ) -> Result<(), ProfileFault>
     requires { AreTaken taken.old.items }
-    ensures read { (result ≡ Err (at_top FaultKind.OutOfMemory)) ⊎ (bind {Y = Taken} result (λ _. Ok (taken.new.items, commands.new)) ≡ after_one device (taken.old.items, commands.old) (view value.now)) }
+    ensures read { (result ≡ Err (at_top FaultKind.OutOfMemory)) ⊎ (bind {Y = Taken} result (λ _. Ok (taken.new.items, commands.new)) ≡ after_one device pages (taken.old.items, commands.old) (view value.now)) }
     ensures taken { AreTaken taken.new.items }
     ensures own_codes { HaveOwnCodes commands.old → HaveOwnCodes commands.new }
-    ensures accepted { AllByRecursion IsCommand commands.old → AllByRecursion IsCommand commands.new }
+    ensures accepted { AllByRecursion (IsCommandOf pages) commands.old → AllByRecursion (IsCommandOf pages) commands.new }
 {
-    let command = match read_placed(alloc, device, value, taken.as_slice()) {
+    let command = match read_placed(alloc, device, pages, value, taken.as_slice()) {
         Ok(command) => command,
         Err(fault) => return Err(fault),
     };
@@ -94,19 +96,20 @@ fn read_next(
 pub(crate) fn read_commands(
     alloc: Global,
     device: u8,
+    pages: u8,
     first: CommandMap,
     values: &[Value],
 ) -> Result<CommandMap, ProfileFault>
     requires own_codes { HaveOwnCodes first }
-    requires accepted { AllByRecursion IsCommand first }
-    ensures read { (result ≡ Err (at_top FaultKind.OutOfMemory)) ⊎ (result ≡ commands_after device [] first (items_view values.now)) }
+    requires accepted { AllByRecursion (IsCommandOf pages) first }
+    ensures read { (result ≡ Err (at_top FaultKind.OutOfMemory)) ⊎ (result ≡ commands_after device pages [] first (items_view values.now)) }
     ensures own_codes { IfOk result HaveOwnCodes }
-    ensures accepted { IfOk result (λ commands. AllByRecursion IsCommand commands) }
+    ensures accepted { IfOk result (λ commands. AllByRecursion (IsCommandOf pages) commands) }
 {
     let mut taken = ArrayVec::new();
     let mut commands = first;
     for value in values {
-        match read_next(alloc, device, &mut taken, &mut commands, value) {
+        match read_next(alloc, device, pages, &mut taken, &mut commands, value) {
             Ok(()) => {}
             Err(fault) => return Err(fault),
         }

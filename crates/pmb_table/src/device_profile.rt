@@ -2,19 +2,18 @@
 //!
 //! Its rows: `tests_commands`, `src/parts.rt`, `src/sample.rt`; `tests/rows/profiles.txt`.
 
-ghost use Rattle.std.specs.Prelude.{◌≡◌, ◌<◌, length, option_map, slice_get, IfSome};
+ghost use Rattle.std.specs.Prelude.{◌≡◌, ◌<◌, length, option_map, slice_get, IfSome, Some};
 ghost use Rattle.pmb_command.specs.Bus.{IsDevice, IsEntry, IsInitial};
 ghost use Rattle.std.specs.Option.{option_and_then};
 ghost use Rattle.pmb_command.specs.Entry.{entry_parts};
-ghost use Rattle.pmb_command.specs.Parts.{command_with};
-ghost use Rattle.pmb_command.specs.Parts.{HaveOwnCodes};
+ghost use Rattle.pmb_command.specs.Parts.{HaveOwnCodes, command_with, initial_on};
 ghost use Rattle.pmb_table.specs.Profile.{device_parts};
 ghost use Rattle.pmb_keys.specs.DeviceKeysView.{keys_parts};
 
 use crate::command_map::CommandMap;
 use pmb_coefficients::Direct;
-use pmb_command::{Entry, PecMode};
-use pmb_keys::DeviceKeys;
+use pmb_command::{Entry, Name, PecMode};
+use pmb_keys::{DeviceKeys, Modes};
 use std::marker::Model;
 
 /// A device of a bus: its address, how it speaks, and its commands, no two of which have one code.
@@ -22,14 +21,17 @@ use std::marker::Model;
 pub struct DeviceProfile {
     /// The address, in its lower 7 bits.
     address: u8,
+    name: Option<Name>,
     pec: PecMode,
     pages: u8,
-    vout_mode: u8,
+    /// VOUT_MODE of each page at first.
+    modes: Modes,
     vout_direct: Option<Direct>,
     commands: CommandMap,
 }
 
 impl Model for DeviceProfile {
+    ghost use Rattle.std.specs.Prelude.{option_map};
     ghost use Rattle.pmb_command.specs.Bus.{IsDevice};
     ghost use Rattle.pmb_command.specs.Parts.{DeviceParts};
 
@@ -37,18 +39,20 @@ impl Model for DeviceProfile {
 
     ghost view = { λ d. record {
       address = d.address;
+      name = option_map (λ name. name.bytes) d.name;
       pec = d.pec;
       pages = d.pages;
-      vout_mode = d.vout_mode;
+      modes = d.modes.items;
       vout_direct = d.vout_direct;
       commands = d.commands;
     } };
 
     ghost invariant = { λ d. IsDevice (record {
       address = d.address;
+      name = option_map (λ name. name.bytes) d.name;
       pec = d.pec;
       pages = d.pages;
-      vout_mode = d.vout_mode;
+      modes = d.modes.items;
       vout_direct = d.vout_direct;
       commands = d.commands;
     }) };
@@ -56,15 +60,16 @@ impl Model for DeviceProfile {
 
 impl DeviceProfile {
     /// The device of these keys and commands.
-    pub(crate) fn new(keys: &DeviceKeys, commands: CommandMap) -> Self
-        requires { IsDevice (device_parts (keys_parts keys.now) commands) }
-        ensures { result ≡ device_parts (keys_parts keys.now) commands }
+    pub(crate) fn new(keys: DeviceKeys, commands: CommandMap) -> Self
+        requires { IsDevice (device_parts (keys_parts keys) commands) }
+        ensures { result ≡ device_parts (keys_parts keys.entry) commands }
     {
         DeviceProfile {
             address: keys.address,
+            name: keys.name,
             pec: keys.pec,
             pages: keys.pages,
-            vout_mode: keys.vout_mode,
+            modes: keys.modes,
             vout_direct: keys.vout_direct,
             commands,
         }
@@ -78,6 +83,16 @@ impl DeviceProfile {
         self.address
     }
 
+    /// The name, where the profile gives one: 1 to 32 characters from 20h to 7eh.
+    pub fn name(&self) -> Option<&str>
+        ensures { option_map (λ name. name.now) result ≡ self.now.name }
+    {
+        match &self.name {
+            Some(name) => Some(name.as_str()),
+            None => None,
+        }
+    }
+
     /// Whether packets carry a packet error code.
     pub fn pec(&self) -> PecMode
         ensures { result ≡ self.now.pec }
@@ -85,19 +100,26 @@ impl DeviceProfile {
         self.pec
     }
 
-    /// The number of pages, 1 to 32. Like `address` and `vout_mode` it is the number that the
-    /// device's key gives.
+    /// The number of pages, 1 to 32.
     pub fn pages(&self) -> u8
         ensures { result ≡ self.now.pages }
     {
         self.pages
     }
 
-    /// The value of VOUT_MODE at first, on each page.
-    pub fn vout_mode(&self) -> u8
-        ensures { result ≡ self.now.vout_mode }
+    /// The value of VOUT_MODE at first on each page, from page 0 on.
+    pub fn modes(&self) -> &[u8]
+        ensures { result.now ≡ self.now.modes }
     {
-        self.vout_mode
+        self.modes.as_slice()
+    }
+
+    /// The value of VOUT_MODE at first on page 0. Where VOUT_MODE has one value for all pages, it is
+    /// that value.
+    pub fn vout_mode(&self) -> u8
+        ensures { slice_get self.now.modes 0 ≡ Some result }
+    {
+        self.modes.as_slice()[0]
     }
 
     /// The coefficients of the output voltage under the DIRECT format of VOUT_MODE, where there are
@@ -140,14 +162,14 @@ impl DeviceProfile {
         }
     }
 
-    /// The bytes that the register of a code begins with, where the profile says.
-    pub fn initial(&self, code: u8) -> Option<&[u8]>
-        ensures bytes { option_map (λ bytes. bytes.now) result ≡ option_and_then (λ c. c.initial) (command_with code self.now.commands) }
+    /// The bytes that the register of a code begins with on a page, where the profile says.
+    pub fn initial(&self, code: u8, page: u8) -> Option<&[u8]>
+        ensures bytes { option_map (λ bytes. bytes.now) result ≡ option_and_then (λ c. initial_on page c.initial) (command_with code self.now.commands) }
         ensures accepted { IfSome result (λ bytes. IfSome (command_with code self.now.commands) (λ c. IsInitial c.entry bytes.now)) }
     {
         match self.commands.get(code) {
             Some(command) => match &command.initial {
-                Some(bytes) => Some(bytes.as_slice()),
+                Some(initial) => initial.on(page),
                 None => None,
             },
             None => None,

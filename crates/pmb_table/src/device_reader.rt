@@ -2,24 +2,25 @@
 //!
 //! Its rows: `tests/rows/profiles.txt`.
 
-ghost use Rattle.std.specs.Prelude.{◌≡◌, ◌⊎◌, ◌<◌, ◌≤◌, [], map, length, Ok, Err, IfOk, IfErr};
+ghost use Rattle.std.specs.Prelude.{◌≡◌, ◌⊎◌, ◌<◌, ◌≤◌, [], false, true, map, length, Ok, Err, IfOk, IfErr};
 ghost use Rattle.std.specs.List.{AllByRecursion};
 ghost use Rattle.toml.specs.View.{view, items_view};
 ghost use Rattle.pmb_command.specs.Bus.{IsDevice};
-ghost use Rattle.pmb_command.specs.Parts.{HaveOwnAddresses};
-ghost use Rattle.pmb_command.specs.Parts.{IsNew};
-ghost use Rattle.pmb_table.specs.Profile.{at_device, at_top, device_of, devices_after};
-ghost use Rattle.toml.specs.Data.{as_table};
-ghost use Rattle.pmb_keys.specs.DeviceKeys.{device_keys};
-ghost use Rattle.pmb_keys.specs.Rules.{bind, typed};
+ghost use Rattle.pmb_command.specs.Parts.{HaveOwnAddresses, HaveOwnCodes, IsNew};
+ghost use Rattle.pmb_keys.specs.DeviceKeysView.{keys_parts};
+ghost use Rattle.pmb_table.specs.machine.CommandMap.{IsCommandOf};
+ghost use Rattle.pmb_table.specs.Profile.{AreApart, at_device, at_top, device_of, device_commands, device_parts, devices_after, keys_of, modes_fit, needs_memory, placed};
+ghost use Rattle.pmb_keys.specs.Rules.{bind, unless};
 
+use crate::command_map::CommandMap;
 use crate::device_commands::{first_commands, read_commands};
 use crate::device_profile::DeviceProfile;
 use crate::fault::ProfileFault;
+use crate::modes::{are_bytes, check_modes};
 use crate::place;
 use crate::standard_commands::StandardCommands;
 use arrayvec::ArrayVec;
-use pmb_keys::{FaultKind, read_device_keys};
+use pmb_keys::{DeviceKeys, FaultKind, Ignored, read_device_keys};
 use std::alloc::Global;
 use toml::Value;
 
@@ -35,51 +36,88 @@ fn addresses_of(devices: &[DeviceProfile]) -> ArrayVec<u8, 64>
     addresses
 }
 
-/// Reads the device of a value that comes after other devices. A fault of its keys is told before
-/// memory is taken.
-fn read_device(
+/// The commands of a device, which begin with the standard ones where its keys say so.
+fn commands_of(
     alloc: Global,
     standard: &mut StandardCommands,
-    before: &[DeviceProfile],
-    value: &Value,
-) -> Result<DeviceProfile, ProfileFault>
-    requires { length before.now ≤ 64 }
-    ensures read { (result ≡ Err (at_top FaultKind.OutOfMemory)) ⊎ (result ≡ device_of before.now (view value.now)) }
-    ensures keys { IfErr (bind (typed as_table (view value.now)) (device_keys (map (λ x. x.address) before.now))) (λ what. result ≡ Err (at_device (length before.now) what)) }
-    ensures device { IfOk result IsDevice }
-    ensures own_address { IfOk result (λ d. IsNew d.address (map (λ x. x.address) before.now)) }
+    number: u8,
+    keys: &DeviceKeys,
+) -> Result<CommandMap, ProfileFault>
+    ensures read { (result ≡ Err (at_top FaultKind.OutOfMemory)) ⊎ (result ≡ device_commands number (keys_parts keys.now)) }
+    ensures own_codes { IfOk result HaveOwnCodes }
+    ensures accepted { IfOk result (λ commands. AllByRecursion (IsCommandOf keys.now.pages) commands) }
 {
-    let addresses = addresses_of(before);
-    let number = before.len() as u8;
-    let keys = match read_device_keys(value, addresses.as_slice()) {
-        Ok(keys) => keys,
-        Err(what) => return Err(place::in_device(number, what)),
-    };
     let first = match first_commands(alloc, standard, keys.standard) {
         Ok(first) => first,
         Err(error) => return Err(place::no_memory(error)),
     };
-    match read_commands(alloc, number, first, keys.commands) {
-        Ok(commands) => Ok(DeviceProfile::new(&keys, commands)),
-        Err(fault) => Err(fault),
+    read_commands(alloc, number, keys.pages, first, keys.commands)
+}
+
+/// The device of these keys and commands, whose modes are tested. No memory is taken.
+fn device_from(
+    number: u8,
+    keys: DeviceKeys,
+    commands: CommandMap,
+) -> Result<DeviceProfile, ProfileFault>
+    requires { modes_fit commands (keys_parts keys).modes ≡ true → IsDevice (device_parts (keys_parts keys) commands) }
+    ensures read { result ≡ bind (placed (at_device number) (unless FaultKind.BadValue (modes_fit commands (keys_parts keys.entry).modes))) (λ _. Ok (device_parts (keys_parts keys.entry) commands)) }
+    ensures device { IfOk result IsDevice }
+{
+    match check_modes(&commands, keys.modes.as_slice()) {
+        Ok(()) => Ok(DeviceProfile::new(keys, commands)),
+        Err(what) => Err(place::in_device(number, what)),
     }
 }
 
-/// Reads the devices of an array's values.
+/// Reads the device of a value that comes after other devices, where some addresses are ignored. A
+/// fault of its keys is told before memory is taken.
+fn read_device(
+    alloc: Global,
+    standard: &mut StandardCommands,
+    ignored: &Ignored,
+    before: &[DeviceProfile],
+    value: &Value,
+) -> Result<DeviceProfile, ProfileFault>
+    requires { length before.now ≤ 64 }
+    ensures read { (result ≡ Err (at_top FaultKind.OutOfMemory)) ⊎ (result ≡ device_of ignored.now before.now (view value.now)) }
+    ensures keys { IfErr (keys_of ignored.now before.now (view value.now)) (λ what. result ≡ Err (at_device (length before.now) what)) }
+    ensures device { IfOk result IsDevice }
+    ensures own_address { IfOk result (λ d. IsNew d.address (map (λ x. x.address) before.now)) }
+    ensures not_ignored { IfOk result (λ d. IsNew d.address ignored.now) }
+{
+    let addresses = addresses_of(before);
+    let number = before.len() as u8;
+    let keys = match read_device_keys(value, addresses.as_slice(), ignored) {
+        Ok(keys) => keys,
+        Err(what) => return Err(place::in_device(number, what)),
+    };
+    let commands = match commands_of(alloc, standard, number, &keys) {
+        Ok(commands) => commands,
+        Err(fault) => return Err(fault),
+    };
+    are_bytes(keys.modes.as_slice());
+    device_from(number, keys, commands)
+}
+
+/// Reads the devices of an array's values, where some addresses are ignored.
 pub(crate) fn read_devices(
     alloc: Global,
+    ignored: &Ignored,
     values: &[Value],
 ) -> Result<Vec<DeviceProfile>, ProfileFault>
     requires { length values.now ≤ 64 }
-    ensures read { (result ≡ Err (at_top FaultKind.OutOfMemory)) ⊎ (bind result (λ devices. Ok devices.items) ≡ devices_after [] (items_view values.now)) }
+    ensures read { (result ≡ Err (at_top FaultKind.OutOfMemory)) ⊎ (bind result (λ devices. Ok devices.items) ≡ devices_after ignored.now [] (items_view values.now)) }
+    ensures no_memory { needs_memory ignored.now [] (items_view values.now) ≡ false → bind result (λ devices. Ok devices.items) ≡ devices_after ignored.now [] (items_view values.now) }
     ensures few { IfOk result (λ devices. length devices.items ≤ 64) }
     ensures own_addresses { IfOk result (λ devices. HaveOwnAddresses devices.items) }
     ensures devices { IfOk result (λ devices. AllByRecursion IsDevice devices.items) }
+    ensures apart { IfOk result (λ devices. AreApart ignored.now devices.items) }
 {
     let mut devices = Vec::new(alloc);
     let mut standard = StandardCommands::new(alloc);
     for value in values {
-        let device = match read_device(alloc, &mut standard, devices.as_slice(), value) {
+        let device = match read_device(alloc, &mut standard, ignored, devices.as_slice(), value) {
             Ok(device) => device,
             Err(fault) => return Err(fault),
         };

@@ -1,7 +1,9 @@
 //! Laws over the definitions that the contracts cite, and what each value of a type keeps: each is
 //! the contract of a function that does nothing.
 ghost use Rattle.pmb_command.specs.Bus.{IsBus, IsDevice};
+ghost use Rattle.pmb_table.specs.Profile.{AreApart, ignored_addresses};
 
+use crate::bus_profile::BusProfile;
 use crate::device_profile::DeviceProfile;
 use crate::profile::Profile;
 pub use pmb_command::laws::{
@@ -20,4 +22,11 @@ pub fn accepted_device(device: &DeviceProfile)
     ensures { IsDevice device.now }
 {
     let _ = device.len();
+}
+
+/// No device has an address that the profile ignores.
+pub fn ignored_are_no_devices(bus: &BusProfile)
+    ensures { AreApart (ignored_addresses bus.now.ignored) bus.now.devices }
+{
+    let _ = bus.profile();
 }

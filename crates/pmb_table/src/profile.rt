@@ -6,28 +6,20 @@
 //!
 //! Its rows: `tests_commands`, `src/parts.rt`, `src/sample.rt`; `tests/rows/profiles.txt`.
 
-ghost use Rattle.std.specs.Prelude.{◌≡◌, ◌⊎◌, ◌≤◌, length, option_map, slice_get, Ok, Err, Some, IfOk, IfErr, IfNone, IfSome, IsUtf8};
+ghost use Rattle.std.specs.Prelude.{◌≡◌, ◌⊎◌, ◌≤◌, length, option_map, slice_get, Err, Some, IfNone, IfSome, IsUtf8};
 ghost use Rattle.std.specs.List.{AllByRecursion};
-ghost use Rattle.toml.specs.View.{view, items_view, table_view};
-ghost use Rattle.pmb_table.specs.Profile.{Says, at_top, device_array_rule, device_items, profile_of};
-ghost use Rattle.pmb_keys.specs.Rules.{bind};
+ghost use Rattle.pmb_table.specs.Profile.{Says, at_top};
 ghost use Rattle.pmb_command.specs.Bus.{IsBus, IsDevice};
 ghost use Rattle.pmb_command.specs.Parts.{HaveOwnAddresses, IsNew, device_with};
 ghost use Rattle.pmb_table.specs.machine.Places.{ArePlaces};
 ghost use Rattle.pmb_table.specs.machine.Profile.{addresses_of};
 
+use crate::bus_profile::BusProfile;
 use crate::device_profile::DeviceProfile;
-use crate::device_reader::read_devices;
-use crate::document::read_table;
 use crate::fault::ProfileFault;
-use crate::place;
-use pmb_keys::{FaultKind, array_of, only, present};
+use pmb_keys::FaultKind;
 use std::alloc::Global;
 use std::marker::Model;
-use toml::{Table, Value};
-
-/// How many devices a profile may have.
-const MAX_DEVICES: usize = 64;
 
 /// How many numbers a byte can be: an address has seven bits, but any byte can be looked up.
 const BYTES: usize = 256;
@@ -52,28 +44,6 @@ impl Model for Profile {
     ghost invariant = { λ p. IsFoundByAddress p.devices.items p.places };
 }
 
-/// The values of an array of devices.
-fn array_rule(value: &Value) -> Result<&[Value], FaultKind>
-    ensures read { bind result (λ values. Ok (items_view values.now)) ≡ device_array_rule (view value.now) }
-    ensures few { IfOk result (λ values. length values.now ≤ 64) }
-{
-    let values = array_of(value)?;
-    if values.len() <= MAX_DEVICES {
-        Ok(values)
-    } else {
-        Err(FaultKind::TooManyDevices)
-    }
-}
-
-/// The values of the devices of a document's table.
-fn device_values(table: &Table) -> Result<&[Value], FaultKind>
-    ensures read { bind result (λ values. Ok (items_view values.now)) ≡ device_items (table_view table.now) }
-    ensures few { IfOk result (λ values. length values.now ≤ 64) }
-{
-    only(table, &["device"])?;
-    array_rule(present(table, "device")?)
-}
-
 /// The index of each device, at its address.
 fn places_of(devices: &[DeviceProfile]) -> [u8; BYTES]
     requires few { length devices.now ≤ 64 }
@@ -88,36 +58,27 @@ fn places_of(devices: &[DeviceProfile]) -> [u8; BYTES]
     places
 }
 
-/// Reads the devices of a document's table. A fault at its top is told before memory is taken.
-fn read_profile(alloc: Global, table: &Table) -> Result<Profile, ProfileFault>
-    ensures read { (result ≡ Err (at_top FaultKind.OutOfMemory)) ⊎ (result ≡ profile_of (table_view table.now)) }
-    ensures top { IfErr (device_items (table_view table.now)) (λ what. result ≡ Err (at_top what)) }
-{
-    let values = match device_values(table) {
-        Ok(values) => values,
-        Err(what) => return Err(place::outside(what)),
-    };
-    match read_devices(alloc, values) {
-        Ok(devices) => {
-            let places = places_of(devices.as_slice());
-            Ok(Profile { devices, places })
-        }
-        Err(fault) => Err(fault),
-    }
-}
-
 impl Profile {
-    /// Reads a profile, a TOML document in UTF-8. Where several things are wrong with it, the fault
-    /// is the first one in the order of the rules, with the device and the command that it lies in.
-    /// Where memory is refused before any fault is found, the answer is `OutOfMemory`, without a
-    /// place; a text that is not UTF-8 is `NotToml` whatever memory there is.
+    /// The profile of these devices.
+    pub(crate) fn from_devices(devices: Vec<DeviceProfile>) -> Profile
+        requires few { length devices.items ≤ 64 }
+        requires own_addresses { HaveOwnAddresses devices.items }
+        requires devices { AllByRecursion IsDevice devices.items }
+        ensures { result ≡ devices.items }
+    {
+        let places = places_of(devices.as_slice());
+        Profile { devices, places }
+    }
+
+    /// Reads the devices of a profile, a TOML document in UTF-8, as `BusProfile::from_toml` does, and
+    /// leaves out which addresses it ignores.
     pub fn from_toml(alloc: Global, text: &[u8]) -> Result<Profile, ProfileFault>
         ensures says { (result ≡ Err (at_top FaultKind.OutOfMemory)) ⊎ Says text.now result }
         ensures utf8 { ¬ IsUtf8 text.now → result ≡ Err (at_top FaultKind.NotToml) }
     {
-        match read_table(alloc, text) {
-            Ok(table) => read_profile(alloc, &table),
-            Err(what) => Err(place::outside(what)),
+        match BusProfile::from_toml(alloc, text) {
+            Ok(bus) => Ok(bus.into_profile()),
+            Err(fault) => Err(fault),
         }
     }
 

@@ -99,9 +99,13 @@ is_58h = record {
   address = record { least = omega arith; greatest = omega arith; no_alert = λ same. absurd (cc same) };
   some_page = omega arith;
   few_pages = omega arith;
-  byte = omega arith;
+  name = tt;
+  mode_of_each = refl;
+  bytes = (omega arith, tt);
+  one_mode = λ one. refl;
   own_codes = ((refl, tt), (tt, tt));
   commands = (command_03h, (command_88h, tt));
+  items = (tt, (tt, tt));
 }
 
 is_59h : IsDevice device_59h
@@ -110,9 +114,13 @@ is_59h = record {
   address = record { least = omega arith; greatest = omega arith; no_alert = λ same. absurd (cc same) };
   some_page = omega arith;
   few_pages = omega arith;
-  byte = omega arith;
+  name = tt;
+  mode_of_each = refl;
+  bytes = (omega arith, tt);
+  one_mode = λ one. refl;
   own_codes = (tt, tt);
   commands = (command_19h, tt);
+  items = (tt, tt);
 }
 
 pub accepted : IsBus worked_bus

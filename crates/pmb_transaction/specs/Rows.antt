@@ -38,9 +38,10 @@ capability = command 0x19 (codes "CAPABILITY") (read One)
 abbrev pub device_58h : DeviceParts
 device_58h = record {
   address = 0x58;
+  name = None;
   pec = Optional;
   pages = 1;
-  vout_mode = 0;
+  modes = 0 ∷ [];
   vout_direct = None;
   commands =
       clear_faults ∷ read_vin ∷ [];
@@ -50,9 +51,10 @@ device_58h = record {
 abbrev pub device_59h : DeviceParts
 device_59h = record {
   address = 0x59;
+  name = None;
   pec = Off;
   pages = 1;
-  vout_mode = 0;
+  modes = 0 ∷ [];
   vout_direct = None;
   commands = capability
       ∷ [];

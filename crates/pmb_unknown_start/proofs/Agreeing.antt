@@ -40,6 +40,11 @@ pub agree_all : (k mode : ℕ) → Agree (replicate k (Some mode)) (replicate k 
 agree_all zero mode = tt
 agree_all (suc k) mode = (refl, agree_all k mode)
 
+-- all are known
+pub agree_known : (ns : List ℕ) → Agree (map Some ns) ns
+agree_known [] = tt
+agree_known (n ∷ ns) = (refl, agree_known ns)
+
 -- none is known
 pub agree_none : (k : ℕ) (ns : List ℕ) → length ns ≡ k → Agree (replicate k None) ns
 agree_none zero [] long = tt

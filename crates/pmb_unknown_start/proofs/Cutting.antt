@@ -1,15 +1,15 @@
 -- Where a capture may be cut: PAGE and VOUT_MODE after the first part are such as the rest may
 -- begin with, so what is known in the rest is what the whole has. For the law
 -- `pieces_say_what_the_whole_says`. What is told before the cut keeps PAGE among the device's
--- pages, or VOUT_MODE fixed, register by register.
-use Rattle.std.proofs.Common.{◌≡◌, ◌≢◌, ℕ, zero, suc, ◌≤◌, cond, slice_set, Bool, true, false, Option, Some, None, List}
-use Rattle.std.proofs.Common.{[], ◌∷◌, ◌++◌, fold, length, nat_eq, replicate, inl, refl, sym, ap, ◌∙◌, subst, arith}
+-- pages, register by register, and as many VOUT_MODEs as there are pages.
+use Rattle.std.proofs.Common.{◌≡◌, ◌≢◌, ℕ, cond, Bool, true, false, Option, Some, None, List, [], ◌∷◌, ◌++◌, fold}
+use Rattle.std.proofs.Common.{length, nat_eq, inl, refl, sym, ap, ◌∙◌, subst, arith}
 use Rattle.std.specs.List.{AllByRecursion, flat_map}
 use Rattle.std.specs.Option.{option_and_then, option_map}
 use Rattle.std.proofs.lemmas.Bool.{eqb-true}
-use Rattle.std.proofs.lemmas.List.{length-replicate}
 use Rattle.std.proofs.lemmas.List.Sums.{fold-append}
 use Rattle.std.proofs.lemmas.Option.{none-some}
+use Rattle.pmb_command.specs.Bus.{IsDevice}
 use Rattle.pmb_command.specs.Parts.{DeviceParts, device_with}
 use Rattle.pmb_transaction.specs.Transaction.{TransactionData}
 use Rattle.pmb_note.specs.Paging.{PagingData, RegisterTold, after_bytes, after_told, after_transaction, after_value}
@@ -18,8 +18,7 @@ use Rattle.pmb_note.specs.Paging.{mode as mode_of_whole, page as page_of_whole}
 use Rattle.pmb_unknown_start.specs.declared.start.Start.{Start}
 use Rattle.pmb_unknown_start.specs.declared.start.Start.TheVariants.{AllKnown, Late, LateFixedMode}
 use Rattle.pmb_unknown_start.specs.Known.{first_known, first_page, known, known_mode, mode, mode_of, page}
-use Rattle.pmb_unknown_start.specs.Certain.{AgreesWith, CanBeCutAfter, CanBegin, IsFixedModeTold, IsOwnPage}
-use Rattle.pmb_unknown_start.specs.Certain.{IsOwnPageTold, paging_from}
+use Rattle.pmb_unknown_start.specs.Certain.{AgreesWith, CanBeCutAfter, CanBegin, IsOwnPage, IsOwnPageTold, paging_from}
 use Rattle.pmb_unknown_start.proofs.Agreeing.{IsThat}
 use Rattle.pmb_unknown_start.proofs.Telling.{begins, mode_is, mode_set, page_is, page_known, same_count, set_where}
 use Rattle.pmb_unknown_start.proofs.Telling.{sets_all, stays, with_modes}
@@ -69,16 +68,6 @@ module _ (device : DeviceParts) (Q : RegisterTold → Type 0) (P : PagingData �
       (choose (nat_eq t.addr device.address) (after_bytes device t.code t.bytes p) p
       (λ same. of_bytes t so.0 p is (eqb-true t.addr device.address same) t.bytes refl) is)
 
--- a value set where all have it
-same_set : (k i value : ℕ) → slice_set (replicate k value) i value ≡ replicate k value
-same_set zero i value = refl
-same_set (suc k) zero value = refl
-same_set (suc k) (suc i) value = ap (λ (vs : List ℕ). value ∷ vs) (same_set k i value)
-
-still_fixed : (b : Bool) (k page value : ℕ) → set_where b (replicate k value) page value ≡ replicate k value
-still_fixed true k page value = ap (λ (n : ℕ). replicate n value) (length-replicate k value)
-still_fixed false k page value = same_set k page value
-
 module _ (device : DeviceParts) (ts : List RegisterTold) (p : PagingData) where
   own_page : AllByRecursion (IsOwnPageTold device) ts → IsOwnPage device p.page
       → IsOwnPage device (fold (after_told device) p ts).page
@@ -94,22 +83,11 @@ module _ (device : DeviceParts) (ts : List RegisterTold) (p : PagingData) where
       (λ t q value so here code bytes is. same_count (sets_all device q) q.modes q.page value ∙ is)
       ts p
 
-  fixed_modes : AllByRecursion (IsFixedModeTold device) ts → p.modes ≡ replicate device.pages device.vout_mode
-      → (fold (after_told device) p ts).modes ≡ replicate device.pages device.vout_mode
-  fixed_modes = kept_through device (IsFixedModeTold device) (λ q. q.modes ≡ replicate device.pages device.vout_mode)
-      (λ t q value so here code bytes is. is)
-      (λ t q value so here code bytes is.
-      let same : value ≡ device.vout_mode = so here code value bytes in
-      ap (λ (n : ℕ). set_where (sets_all device q) q.modes q.page n) same
-      ∙ ap (λ (modes : List ℕ). set_where (sets_all device q) modes q.page device.vout_mode) is
-      ∙ still_fixed (sets_all device q) device.pages q.page device.vout_mode)
-      ts p
-
 -- ---- the rest of a capture
 
-module _ (device : DeviceParts) (some : 1 ≤ device.pages) (before : List TransactionData) where
+module _ (device : DeviceParts) (is : IsDevice device) (before : List TransactionData) where
   first_page_is : IsOwnPage device 0
-  first_page_is = inl (omega arith)
+  first_page_is = inl (omega (arith, is.some_page))
 
   page_here : AllByRecursion (IsOwnPageTold device) (flat_map told before)
       → IsOwnPage device (paging device before).page
@@ -122,15 +100,9 @@ module _ (device : DeviceParts) (some : 1 ≤ device.pages) (before : List Trans
   can_begin Late so = (
     page_here so,
     subst (λ (q : PagingData). length q.modes ≡ device.pages) (fold_told device before (first_paging device))
-        (own_count device (flat_map told before) (first_paging device) so
-        (length-replicate device.pages device.vout_mode)),
+        (own_count device (flat_map told before) (first_paging device) so is.mode_of_each),
   )
-  can_begin LateFixedMode so = (
-    page_here so.0,
-    subst (λ (q : PagingData). q.modes ≡ replicate device.pages device.vout_mode)
-        (fold_told device before (first_paging device))
-        (fixed_modes device (flat_map told before) (first_paging device) so.1 refl),
-  )
+  can_begin LateFixedMode so = (page_here so.0, ap (λ (modes : List ℕ). length modes) so.1 ∙ is.mode_of_each, so.1)
 
   -- the whole is the piece, from what was before
   whole : (piece : List TransactionData) → paging_from device (paging device before) piece
@@ -142,7 +114,7 @@ module _ (device : DeviceParts) (some : 1 ≤ device.pages) (before : List Trans
   mode_of_piece start piece so =
       subst (λ (q : PagingData). AgreesWith (known_mode (known start device piece)) (selected_mode q)) (whole piece)
       (mode_is (known start device piece) (paging_from device (paging device before) piece)
-      (stays device piece (first_known start device) (paging device before)
+      (stays device start piece (first_known start device) (paging device before)
       (begins device start (paging device before) (can_begin start so))))
 
 -- late, PAGE is known only where the piece tells it
@@ -157,25 +129,27 @@ pub page_of_piece : (device : DeviceParts) (before piece : List TransactionData)
 page_of_piece device before piece start n late is =
     ap (λ (q : PagingData). q.page) (fold-append (after_transaction device) (first_paging device) before piece)
     ∙ page_is (known start device piece).page (paging_from device (paging device before) piece).page n is
-    (page_known device piece (first_known start device) (paging device before)
+    (page_known device start piece (first_known start device) (paging device before)
     (unknown_first start (paging device before).page late))
 
 -- ---- .. of the device with an address
 
 mode_found : (start : Start) (before piece : List TransactionData) (found : Option DeviceParts)
-    → ((device : DeviceParts) → found ≡ Some device → 1 ≤ device.pages)
+    → ((device : DeviceParts) → found ≡ Some device → IsDevice device)
     → ((device : DeviceParts) → found ≡ Some device → CanBeCutAfter start device before)
-    → AgreesWith (mode_of start piece found)
+    → AgreesWith (mode_of (λ device. known start device piece) found)
     (option_and_then (λ device. selected_mode (paging device (before ++ piece))) found)
-mode_found start before piece None some so = refl
-mode_found start before piece (Some device) some so = mode_of_piece device (some device refl) before start piece
+mode_found start before piece None accepted so = refl
+mode_found start before piece (Some device) accepted so =
+    mode_of_piece device (accepted device refl) before start piece
     (so device refl)
 
 pub mode_at : (profile : List DeviceParts) (start : Start) (before piece : List TransactionData) (addr : ℕ)
-    → ((device : DeviceParts) → device_with addr profile ≡ Some device → 1 ≤ device.pages)
+    → ((device : DeviceParts) → device_with addr profile ≡ Some device → IsDevice device)
     → ((device : DeviceParts) → device_with addr profile ≡ Some device → CanBeCutAfter start device before)
     → AgreesWith (mode start profile piece addr) (mode_of_whole profile (before ++ piece) addr)
-mode_at profile start before piece addr some so = mode_found start before piece (device_with addr profile) some so
+mode_at profile start before piece addr accepted so =
+    mode_found start before piece (device_with addr profile) accepted so
 
 page_found : (start : Start) (before piece : List TransactionData) (n : ℕ) (found : Option DeviceParts)
     → start ≢ AllKnown

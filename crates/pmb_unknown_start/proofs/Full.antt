@@ -52,9 +52,7 @@ all_is_known device ts = along device IsFull
     (λ k p value is. ap (learn_mode device value) is
     ∙ ap (λ (modes : List (Option ℕ)). record { page = Some p.page; modes = modes })
     (modes_set (has_paged_mode device) p value))
-    ts (first_known AllKnown device) (first_paging device)
-    (ap (λ (modes : List (Option ℕ)). record { page = Some 0; modes = modes })
-    (sym (map_all device.pages device.vout_mode)))
+    AllKnown (λ k p is. is) ts (first_known AllKnown device) (first_paging device) refl
 
 -- ---- what is read of it
 
@@ -90,7 +88,8 @@ selected true ns i = shared_is ns
 selected false ns i = on_page_is ns i
 
 mode_found : (ts : List TransactionData) (found : Option DeviceParts)
-    → mode_of AllKnown ts found ≡ known_as (option_and_then (λ device. selected_mode (paging device ts)) found)
+    → mode_of (λ device. known AllKnown device ts) found
+    ≡ known_as (option_and_then (λ device. selected_mode (paging device ts)) found)
 mode_found ts None = refl
 mode_found ts (Some device) =
     ap known_mode (all_is_known device ts) ∙ selected (nat_eq (paging device ts).page all_pages)

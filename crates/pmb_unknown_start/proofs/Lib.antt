@@ -2,3 +2,4 @@ pub mod Agreeing
 pub mod Telling
 pub mod Cutting
 pub mod Full
+pub mod Assumed

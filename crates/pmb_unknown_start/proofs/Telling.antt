@@ -1,27 +1,32 @@
 -- What a transaction tells changes what is known (`KnownPaging`) as it changes what is
 -- (`PagingData`). For the law `what_is_known_is_certain`, and for Cutting and Full. Stated once for
--- any relation between the two that stays when PAGE is told and when VOUT_MODE is (`along`); then
--- for agreement: a known PAGE is that one, an unknown one is a page or all.
+-- any relation between the two that stays when PAGE is told, when VOUT_MODE is, and when VOUT_MODE is
+-- untold (`along`); then for agreement: a known PAGE is that one, an unknown one is a page or all.
+-- Late, agreement stays on every way (`follows`): what is untold agrees with each value.
 use Rattle.std.proofs.Common.{◌≡◌, ◌⊎◌, ℕ, ◌<◌, ◌≤◌, cond, slice_set, Bool, true, false, not, ◌||◌, Option, Some, None}
-use Rattle.std.proofs.Common.{List, [], ◌∷◌, fold, length, nat_eq, nat_lt, replicate, slice_get, inl, inr, refl, sym}
-use Rattle.std.proofs.Common.{ap, ◌∙◌, subst, arith}
+use Rattle.std.proofs.Common.{List, [], ◌∷◌, fold, length, map, nat_eq, nat_lt, replicate, slice_get, inl, inr, refl}
+use Rattle.std.proofs.Common.{sym, ap, ◌∙◌, subst, arith}
 use Rattle.std.proofs.lemmas.Bool.{eqb-false, ltb-false}
 use Rattle.std.proofs.lemmas.List.{length-replicate, length-set, set_past}
 use Rattle.pmb_command.specs.Parts.{DeviceParts}
-use Rattle.pmb_transaction.specs.Transaction.{TransactionData}
+use Rattle.pmb_transaction.specs.Transaction.{TransactionData, Write, Read, Call, Refused, Alert, NoAlert}
 use Rattle.pmb_note.specs.Paging.{PagingData, RegisterTold, after_bytes, after_told, after_transaction, after_value}
-use Rattle.pmb_note.specs.Paging.{all_pages, common, has_paged_mode, page_code, selected_mode, told, vout_mode_code}
-use Rattle.pmb_note.specs.Paging.{with_mode}
+use Rattle.pmb_note.specs.Paging.{all_pages, common, has_paged_mode, page_code, selected_mode, told_by_part}
+use Rattle.pmb_note.specs.Paging.{vout_mode_code, with_mode}
 use Rattle.pmb_unknown_start.specs.declared.mode.KnownMode.{KnownMode}
 use Rattle.pmb_unknown_start.specs.declared.mode.KnownMode.TheVariants.{Known, Unknown, NoPage}
 use Rattle.pmb_unknown_start.specs.declared.start.Start.{Start}
 use Rattle.pmb_unknown_start.specs.declared.start.Start.TheVariants.{AllKnown, Late, LateFixedMode}
-use Rattle.pmb_unknown_start.specs.Known.{KnownPaging, any_page, first_known, known, known_mode, learn_bytes}
-use Rattle.pmb_unknown_start.specs.Known.{learn_mode, learn_told, learn_transaction, learn_value, mode_on_page}
-use Rattle.pmb_unknown_start.specs.Known.{mode_under, modes_after, shared_mode}
-use Rattle.pmb_unknown_start.specs.Certain.{AgreesWith, CanBegin, IsOwnPage, paging_from}
-use Rattle.pmb_unknown_start.proofs.Agreeing.{Agree, IsShared, IsThat, agree_all, agree_none, agree_set, on_page}
-use Rattle.pmb_unknown_start.proofs.Agreeing.{one_of_all, same_length, shared, somewhere_all, somewhere_one}
+use Rattle.pmb_unknown_start.specs.Restores.{untells}
+use Rattle.pmb_unknown_start.specs.Known.{KnownPaging, any_page, first_known, forget_modes, known, known_mode}
+use Rattle.pmb_unknown_start.specs.Known.{learn_bytes, learn_mode, learn_told, learn_transaction, learn_value}
+use Rattle.pmb_unknown_start.specs.Known.{learn_written, mode_on_page, mode_under, modes_after, shared_mode}
+use Rattle.pmb_unknown_start.specs.Known.{told_by_read}
+use Rattle.pmb_unknown_start.specs.Certain.{AgreesWith, CanBegin, CanFollow, CanFollowAll, CanFollowWrites, CanReach}
+use Rattle.pmb_unknown_start.specs.Certain.{IsOwnPage, MayHave, paging_from}
+use Rattle.pmb_unknown_start.proofs.Agreeing.{Agree, IsShared, IsThat, agree_all, agree_known, agree_none}
+use Rattle.pmb_unknown_start.proofs.Agreeing.{agree_set, on_page, one_of_all, same_length, shared, somewhere_all}
+use Rattle.pmb_unknown_start.proofs.Agreeing.{somewhere_one}
 
 -- ---- VOUT_MODE is set
 
@@ -82,19 +87,39 @@ module _ (device : DeviceParts) (R : KnownPaging → PagingData → Type 0)
   bytes_told code (value ∷ []) k p is = value_told code value k p is
   bytes_told code (a ∷ b ∷ bytes) k p is = is
 
-  all_told : (ts : List RegisterTold) (k : KnownPaging) (p : PagingData) → R k p
-      → R (fold (learn_told device) k ts) (fold (after_told device) p ts)
-  all_told [] k p is = is
-  all_told (t ∷ ts) k p is =
-      all_told ts (learn_told device k t) (after_told device p t)
-      (both (nat_eq t.addr device.address) (learn_bytes device t.code t.bytes k) k (after_bytes device t.code t.bytes p)
-      p (bytes_told t.code t.bytes k p is) is)
+  pub one_told : (t : RegisterTold) (k : KnownPaging) (p : PagingData) → R k p
+      → R (learn_told device k t) (after_told device p t)
+  one_told t k p is = both (nat_eq t.addr device.address) (learn_bytes device t.code t.bytes k) k
+      (after_bytes device t.code t.bytes p) p (bytes_told t.code t.bytes k p is) is
 
-  pub along : (ts : List TransactionData) (k : KnownPaging) (p : PagingData) → R k p
-      → R (fold (learn_transaction device) k ts) (paging_from device p ts)
-  along [] k p is = is
-  along (t ∷ ts) k p is = along ts (learn_transaction device k t) (after_transaction device p t)
-      (all_told (told t) k p is)
+  -- .. and when VOUT_MODE is untold
+  module _ (start : Start)
+      (forgotten : (k : KnownPaging) (p : PagingData) → R k p → R (forget_modes start k) p) where
+    forgotten_if : (b : Bool) (k : KnownPaging) (p : PagingData) → R k p → R (cond b (forget_modes start k) k) p
+    forgotten_if true k p is = forgotten k p is
+    forgotten_if false k p is = is
+
+    all_written : (ts : List RegisterTold) (k : KnownPaging) (p : PagingData) → R k p
+        → R (fold (learn_written start device) k ts) (fold (after_told device) p ts)
+    all_written [] k p is = is
+    all_written (t ∷ ts) k p is =
+        all_written ts (learn_written start device k t) (after_told device p t)
+        (forgotten_if (untells device.address t) (learn_told device k t) (after_told device p t) (one_told t k p is))
+
+    by_transaction : (t : TransactionData) (k : KnownPaging) (p : PagingData) → R k p
+        → R (learn_transaction start device k t) (after_transaction device p t)
+    by_transaction (Write parts) k p is = all_written (map told_by_part parts) k p is
+    by_transaction (Read t) k p is = one_told (told_by_read t) k p is
+    by_transaction (Call t) k p is = is
+    by_transaction (Refused t) k p is = all_written (map told_by_part t.parts) k p is
+    by_transaction (Alert t) k p is = is
+    by_transaction NoAlert k p is = is
+
+    pub along : (ts : List TransactionData) (k : KnownPaging) (p : PagingData) → R k p
+        → R (fold (learn_transaction start device) k ts) (paging_from device p ts)
+    along [] k p is = is
+    along (t ∷ ts) k p is = along ts (learn_transaction start device k t) (after_transaction device p t)
+        (by_transaction t k p is)
 
 -- ---- what is known agrees with what is
 
@@ -108,12 +133,12 @@ pub record Agrees (k : KnownPaging) (p : PagingData) : Type 0 where
   pub page : PageAgrees k.page p
   pub modes : Agree k.modes p.modes
 
--- a count that is the same
-page_stays : (page : Option ℕ) (p : PagingData) (modes : List ℕ) → length modes ≡ length p.modes → PageAgrees page p
-    → PageAgrees page (with_modes p modes)
-page_stays None p modes same (inl within) = inl (omega arith)
-page_stays None p modes same (inr all) = inr all
-page_stays (Some page) p modes same is = is
+-- the same PAGE, and as many pages
+page_stays : (page : Option ℕ) (p q : PagingData) → q.page ≡ p.page → length q.modes ≡ length p.modes
+    → PageAgrees page p → PageAgrees page q
+page_stays None p q same count (inl within) = inl (omega (arith, same, count, within))
+page_stays None p q same count (inr all) = inr (same ∙ all)
+page_stays (Some page) p q same count is = is ∙ sym same
 
 -- all pages
 everywhere : (ms : List (Option ℕ)) (ns : List ℕ) (mode : ℕ) → Agree ms ns
@@ -149,21 +174,82 @@ modes_stay true (Some page) p ms mode is agree =
     (sym is)
     (on_known (nat_eq p.page all_pages) ms p.modes p.page mode agree)
 
+-- where VOUT_MODE is untold, what is known agrees with each value
+left : (b : Bool) (k : KnownPaging) (p q : PagingData) → MayHave b p q → Agrees k p
+    → Agrees (cond b (forget_modes Late k) k) q
+left true k p q may is = record {
+  page = page_stays k.page p q may.0 may.1 is.page;
+  modes = agree_none (length k.modes) q.modes (may.1 ∙ sym (same_length k.modes p.modes is.modes));
+}
+left false k p q may is = subst (Agrees k) (sym may) is
+
+forgotten : (start : Start) (k : KnownPaging) (p : PagingData) → Agrees k p → Agrees (forget_modes start k) p
+forgotten AllKnown k p is = is
+forgotten Late k p is = left true k p p (refl, refl) is
+forgotten LateFixedMode k p is = is
+
+-- PAGE stays known
+page_kept : (start : Start) (k : KnownPaging) (n : ℕ) → IsThat k.page n → IsThat (forget_modes start k).page n
+page_kept AllKnown k n is = is
+page_kept Late k n is = is
+page_kept LateFixedMode k n is = is
+
 module _ (device : DeviceParts) where
-  pub stays : (ts : List TransactionData) (k : KnownPaging) (p : PagingData) → Agrees k p
-      → Agrees (fold (learn_transaction device) k ts) (paging_from device p ts)
-  stays = along device Agrees
-      (λ k p value is. record { page = refl; modes = is.modes })
-      (λ k p value is. record {
-        page = page_stays k.page p (set_where (sets_all device p) p.modes p.page value)
-            (same_count (sets_all device p) p.modes p.page value) is.page;
+  with_page : (k : KnownPaging) (p : PagingData) (value : ℕ) → Agrees k p
+      → Agrees (record { page = Some value; modes = k.modes }) (record { page = value; modes = p.modes })
+  with_page k p value is = record { page = refl; modes = is.modes }
+
+  with_mode_set : (k : KnownPaging) (p : PagingData) (value : ℕ) → Agrees k p
+      → Agrees (learn_mode device value k) (with_modes p (set_where (sets_all device p) p.modes p.page value))
+  with_mode_set k p value is =
+      let modes = set_where (sets_all device p) p.modes p.page value in
+      record {
+        page = page_stays k.page p (with_modes p modes) refl (same_count (sets_all device p) p.modes p.page value)
+            is.page;
         modes = modes_stay (has_paged_mode device) k.page p k.modes value is.page is.modes;
-      })
+      }
+
+  pub stays : (start : Start) (ts : List TransactionData) (k : KnownPaging) (p : PagingData) → Agrees k p
+      → Agrees (fold (learn_transaction start device) k ts) (paging_from device p ts)
+  stays start = along device Agrees with_page with_mode_set start (forgotten start)
 
   -- PAGE alone needs nothing of what was before
-  pub page_known : (ts : List TransactionData) (k : KnownPaging) (p : PagingData) → IsThat k.page p.page
-      → IsThat (fold (learn_transaction device) k ts).page (paging_from device p ts).page
-  page_known = along device (λ k p. IsThat k.page p.page) (λ k p value is. refl) (λ k p value is. is)
+  pub page_known : (start : Start) (ts : List TransactionData) (k : KnownPaging) (p : PagingData)
+      → IsThat k.page p.page
+      → IsThat (fold (learn_transaction start device) k ts).page (paging_from device p ts).page
+  page_known start = along device (λ k p. IsThat k.page p.page) (λ k p value is. refl) (λ k p value is. is) start
+      (λ k p is. page_kept start k p.page is)
+
+  -- ---- late, on every way
+
+  told_stays : (t : RegisterTold) (k : KnownPaging) (p : PagingData) → Agrees k p
+      → Agrees (learn_told device k t) (after_told device p t)
+  told_stays = one_told device Agrees with_page with_mode_set
+
+  follows_writes : (ts : List RegisterTold) (k : KnownPaging) (p q : PagingData) → CanFollowWrites device p ts q
+      → Agrees k p → Agrees (fold (learn_written Late device) k ts) q
+  follows_writes [] k p q way is = subst (Agrees k) (sym way) is
+  follows_writes (t ∷ ts) k p q way is = follows_writes ts (learn_written Late device k t) way.0 q way.2
+      (left (untells device.address t) (learn_told device k t) (after_told device p t) way.0 way.1
+      (told_stays t k p is))
+
+  follows_one : (t : TransactionData) (k : KnownPaging) (p q : PagingData) → CanFollow device p t q → Agrees k p
+      → Agrees (learn_transaction Late device k t) q
+  follows_one (Write parts) k p q way is = follows_writes (map told_by_part parts) k p q way is
+  follows_one (Read t) k p q way is = subst (Agrees (learn_told device k (told_by_read t))) (sym way)
+      (told_stays (told_by_read t) k p is)
+  follows_one (Call t) k p q way is = subst (Agrees k) (sym way) is
+  follows_one (Refused t) k p q way is = follows_writes (map told_by_part t.parts) k p q way is
+  follows_one (Alert t) k p q way is = subst (Agrees k) (sym way) is
+  follows_one NoAlert k p q way is = subst (Agrees k) (sym way) is
+
+  follows : (ts : List TransactionData) (k : KnownPaging) (p q : PagingData) → CanFollowAll device p ts q → Agrees k p
+      → Agrees (fold (learn_transaction Late device) k ts) q
+  follows [] k p q way is = subst (Agrees k) (sym way) is
+  follows (t ∷ ts) k p q way is = follows ts (learn_transaction Late device k t) way.0 q way.2
+      (follows_one t k p way.0 way.1 is)
+
+  -- ---- what is known at first
 
   -- a page or all, by the number of pages
   own : (p : PagingData) → length p.modes ≡ device.pages → IsOwnPage device p.page → PageAgrees None p
@@ -173,12 +259,11 @@ module _ (device : DeviceParts) where
   -- what is known at first agrees with what may be
   pub begins : (start : Start) (p : PagingData) → CanBegin start device p → Agrees (first_known start device) p
   begins AllKnown p is = subst (Agrees (first_known AllKnown device)) (sym is)
-      (record { page = refl; modes = agree_all device.pages device.vout_mode })
+      (record { page = refl; modes = agree_known device.modes })
   begins Late p is = record { page = own p is.1 is.0; modes = agree_none device.pages p.modes is.1 }
   begins LateFixedMode p is = record {
-    page = own p (ap (λ (modes : List ℕ). length modes) is.1 ∙ length-replicate device.pages device.vout_mode) is.0;
-    modes = subst (Agree (replicate device.pages (Some device.vout_mode))) (sym is.1)
-        (agree_all device.pages device.vout_mode);
+    page = own p is.1 is.0;
+    modes = subst (Agree (map Some device.modes)) (sym is.2) (agree_known device.modes);
   }
 
 -- ---- what is read of it
@@ -225,17 +310,26 @@ page_that (Some page) p is = is
 
 -- ---- what is known after transactions is certain
 
-module _ (start : Start) (device : DeviceParts) (ts : List TransactionData) (p : PagingData)
-    (begin : CanBegin start device p) where
-  after_all : Agrees (known start device ts) (paging_from device p ts)
-  after_all = stays device ts (first_known start device) p (begins device start p begin)
+-- .. where the last value goes on
+goes_on : (start : Start) (device : DeviceParts) (ts : List TransactionData) (p q : PagingData)
+    → CanBegin start device p → q ≡ paging_from device p ts → Agrees (known start device ts) q
+goes_on start device ts p q begin is = subst (Agrees (known start device ts)) (sym is)
+    (stays device start ts (first_known start device) p (begins device start p begin))
 
+reached : (start : Start) (device : DeviceParts) (ts : List TransactionData) (p q : PagingData)
+    → CanBegin start device p → CanReach start device p ts q → Agrees (known start device ts) q
+reached AllKnown device ts p q begin reach = goes_on AllKnown device ts p q begin reach
+reached Late device ts p q begin reach = follows device ts (first_known Late device) p q reach
+    (begins device Late p begin)
+reached LateFixedMode device ts p q begin reach = goes_on LateFixedMode device ts p q begin reach
+
+module _ (start : Start) (device : DeviceParts) (ts : List TransactionData) (p q : PagingData)
+    (begin : CanBegin start device p) (reach : CanReach start device p ts q) where
   pub certain_mode : (o : Option ℕ) (k : KnownMode) → known_mode (known start device ts) ≡ k
-      → (AgreesWith k (selected_mode (paging_from device p ts)) → selected_mode (paging_from device p ts) ≡ o)
-      → selected_mode (paging_from device p ts) ≡ o
-  certain_mode o k is says = says (subst (λ (l : KnownMode). AgreesWith l (selected_mode (paging_from device p ts))) is
-      (mode_is (known start device ts) (paging_from device p ts) after_all))
+      → (AgreesWith k (selected_mode q) → selected_mode q ≡ o) → selected_mode q ≡ o
+  certain_mode o k is says = says (subst (λ (l : KnownMode). AgreesWith l (selected_mode q)) is
+      (mode_is (known start device ts) q (reached start device ts p q begin reach)))
 
-  pub certain_page : (page : ℕ) → (known start device ts).page ≡ Some page → (paging_from device p ts).page ≡ page
-  certain_page page is = page_is (known start device ts).page (paging_from device p ts).page page is
-      (page_that (known start device ts).page (paging_from device p ts) after_all.page)
+  pub certain_page : (page : ℕ) → (known start device ts).page ≡ Some page → q.page ≡ page
+  certain_page page is = page_is (known start device ts).page q.page page is
+      (page_that (known start device ts).page q (reached start device ts p q begin reach).page)

@@ -1,19 +1,21 @@
 -- What is known of PAGE and VOUT_MODE of each device (PMBus Part II 1.3 sections 11.10 and 8), as
 -- the transactions on a bus tell them, where the first of them may not be the first on the bus.
 --
--- What a transaction tells, and what PAGE and VOUT_MODE are, is in `pmb_note`. A PAGE that is not
--- known is one of the device's pages, or ffh for all. That what is known is so is in `Certain`.
-use Rattle.std.specs.Prelude.{ℕ, Bool, true, not, if◌then◌else◌, Option, Some, None, List, [], ◌∷◌, fold, length, map}
-use Rattle.std.specs.Prelude.{nat_eq, option_and_then, replicate, slice_get, slice_set}
+-- What is told, and what PAGE and VOUT_MODE are, is in `pmb_note`. A PAGE that is not known is one of
+-- the device's pages, or ffh for all. A write that sets VOUT_MODE unseen (`Restores`) leaves it
+-- untold. That what is known is so is in `Certain`.
+use Rattle.std.specs.Prelude.{ℕ, Bool, true, false, not, if◌then◌else◌, Option, Some, None, List, [], ◌∷◌, fold}
+use Rattle.std.specs.Prelude.{length, map, nat_eq, option_and_then, replicate, slice_get, slice_set}
 use Rattle.std.specs.List.{list_all}
 use Rattle.std.specs.Option.{is_some}
 use Rattle.pmb_command.specs.Parts.{DeviceParts, device_with}
-use Rattle.pmb_transaction.specs.Transaction.{TransactionData}
-use Rattle.pmb_note.specs.Paging.{RegisterTold, all_pages, has_paged_mode, page_code, told, vout_mode_code}
+use Rattle.pmb_transaction.specs.Transaction.{ReadData, TransactionData, Write, Read, Call, Refused, Alert, NoAlert}
+use Rattle.pmb_note.specs.Paging.{RegisterTold, all_pages, has_paged_mode, page_code, told_by_part, vout_mode_code}
 use Rattle.pmb_unknown_start.specs.declared.mode.KnownMode.{KnownMode}
 use Rattle.pmb_unknown_start.specs.declared.mode.KnownMode.TheVariants.{Known, Unknown, NoPage}
 use Rattle.pmb_unknown_start.specs.declared.start.Start.{Start}
 use Rattle.pmb_unknown_start.specs.declared.start.Start.TheVariants.{AllKnown, Late, LateFixedMode}
+use Rattle.pmb_unknown_start.specs.Restores.{untells}
 
 -- PAGE of a device, and the value of VOUT_MODE on each page, from page 0 on, where they are known.
 pub record KnownPaging : Type 0 where
@@ -28,14 +30,14 @@ first_page AllKnown = Some 0
 first_page Late = None
 first_page LateFixedMode = None
 
--- .. nor is VOUT_MODE, unless it is fixed
-abbrev pub first_mode : Start → DeviceParts → Option ℕ
-first_mode AllKnown device = Some device.vout_mode
-first_mode Late device = None
-first_mode LateFixedMode device = Some device.vout_mode
+-- .. nor is VOUT_MODE on any page, unless it is fixed: then it is the one that the profile gives each page
+abbrev pub first_modes : Start → DeviceParts → List (Option ℕ)
+first_modes AllKnown device = map Some device.modes
+first_modes Late device = replicate device.pages None
+first_modes LateFixedMode device = map Some device.modes
 
 abbrev pub first_known : Start → DeviceParts → KnownPaging
-first_known start device = record { page = first_page start; modes = replicate device.pages (first_mode start device) }
+first_known start device = record { page = first_page start; modes = first_modes start device }
 
 -- ---- what is learnt
 
@@ -84,14 +86,40 @@ learn_bytes device code (a ∷ b ∷ bytes) k = k
 abbrev pub learn_told : DeviceParts → KnownPaging → RegisterTold → KnownPaging
 learn_told device k t = if nat_eq t.addr device.address then learn_bytes device t.code t.bytes k else k
 
-abbrev pub learn_transaction : DeviceParts → KnownPaging → TransactionData → KnownPaging
-learn_transaction device k t = fold (learn_told device) k (told t)
+-- what a read tells
+abbrev pub told_by_read : ReadData → RegisterTold
+told_by_read t = record { addr = t.addr; code = t.code; bytes = t.reply }
+
+-- ---- what is untold
+
+-- VOUT_MODE is untold: late it is not known then on any page, and from another start its last value
+-- goes on
+abbrev pub forget_modes : Start → KnownPaging → KnownPaging
+forget_modes AllKnown k = k
+forget_modes Late k = record { page = k.page; modes = replicate (length k.modes) None }
+forget_modes LateFixedMode k = k
+
+-- a write tells what it wrote, and may leave VOUT_MODE untold
+abbrev pub learn_written : Start → DeviceParts → KnownPaging → RegisterTold → KnownPaging
+learn_written start device k t =
+    if untells device.address t then forget_modes start (learn_told device k t) else learn_told device k t
+
+-- What is known after a transaction: complete parts were written, those of a refused packet too, and
+-- a read tells what was replied. A call tells nothing, and neither does an answer at the Alert
+-- Response Address.
+abbrev pub learn_transaction : Start → DeviceParts → KnownPaging → TransactionData → KnownPaging
+learn_transaction start device k (Write parts) = fold (learn_written start device) k (map told_by_part parts)
+learn_transaction start device k (Read t) = learn_told device k (told_by_read t)
+learn_transaction start device k (Call t) = k
+learn_transaction start device k (Refused t) = fold (learn_written start device) k (map told_by_part t.parts)
+learn_transaction start device k (Alert t) = k
+learn_transaction start device k NoAlert = k
 
 -- ---- what is known after all
 
 -- what is known of a device after transactions
 abbrev pub known : Start → DeviceParts → List TransactionData → KnownPaging
-known start device ts = fold (learn_transaction device) (first_known start device) ts
+known start device ts = fold (learn_transaction start device) (first_known start device) ts
 
 -- the first mode that is known
 abbrev pub first_told : List (Option ℕ) → Option ℕ
@@ -135,14 +163,26 @@ mode_under (Some page) modes = if nat_eq page all_pages then shared_mode modes e
 abbrev pub known_mode : KnownPaging → KnownMode
 known_mode k = mode_under k.page k.modes
 
--- .. of the device with an address after transactions, where the profile has it
-abbrev pub mode_of : Start → List TransactionData → Option DeviceParts → KnownMode
-mode_of start ts None = NoPage
-mode_of start ts (Some device) = known_mode (known start device ts)
+-- .. of a device, if there is one, by what is known of each
+abbrev pub mode_of : (DeviceParts → KnownPaging) → Option DeviceParts → KnownMode
+mode_of now None = NoPage
+mode_of now (Some device) = known_mode (now device)
 
+-- .. of the device with an address after transactions
 abbrev pub mode : Start → List DeviceParts → List TransactionData → ℕ → KnownMode
-mode start profile ts addr = mode_of start ts (device_with addr profile)
+mode start profile ts addr = mode_of (λ device. known start device ts) (device_with addr profile)
 
--- .. and its PAGE, where it is known
+-- its PAGE, where it is known
 abbrev pub page : Start → List DeviceParts → List TransactionData → ℕ → Option ℕ
 page start profile ts addr = option_and_then (λ device. (known start device ts).page) (device_with addr profile)
+
+-- ---- what is assumed
+
+abbrev pub is_unknown : KnownMode → Bool
+is_unknown (Known mode) = false
+is_unknown Unknown = true
+is_unknown NoPage = false
+
+-- The mode of a device is assumed where it would not be known, had the capture begun in the middle.
+abbrev pub is_assumed : List DeviceParts → List TransactionData → ℕ → Bool
+is_assumed profile ts addr = is_unknown (mode Late profile ts addr)

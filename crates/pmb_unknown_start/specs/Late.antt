@@ -4,4 +4,4 @@
 -- given the transactions, in order. What that says of its own fields is in `machine`, and nothing
 -- else needs it to be understood.
 pub use Rattle.pmb_unknown_start.specs.machine.Standing.{HasSeen}
-pub use Rattle.pmb_unknown_start.specs.Known.{page, mode}
+pub use Rattle.pmb_unknown_start.specs.Known.{page, mode, is_assumed}

@@ -1,3 +1,4 @@
+pub mod Restores
 pub mod Known
 pub mod Late
 pub mod Certain

@@ -2,11 +2,11 @@
 //!
 //! Its rows: `tests_lines`, `src/late/starts.rt`; `tests_json`, `src/fields/contexts.rt`.
 
-ghost use Rattle.std.specs.Prelude.{◌≡◌, ◌||◌, None, Some, map, nat_eq, slice_get, slice_set};
+ghost use Rattle.std.specs.Prelude.{◌≡◌, ◌≤◌, ◌||◌, None, Some, length, map, nat_eq, replicate, slice_get, slice_set};
 ghost use Rattle.std.specs.List.{list_all};
 ghost use Rattle.std.specs.Option.{is_some};
 ghost use Rattle.pmb_note.specs.Paging.{has_paged_mode, page_code, vout_mode_code};
-ghost use Rattle.pmb_unknown_start.specs.Known.{any_page, first_known, first_mode, first_page, first_told, kept_under, known_mode, learn_mode, learn_value, may_be, mode_on_page, modes_after, modes_somewhere, shared_by, shared_mode};
+ghost use Rattle.pmb_unknown_start.specs.Known.{any_page, first_known, first_modes, first_page, first_told, forget_modes, kept_under, known_mode, learn_mode, learn_value, may_be, mode_on_page, modes_after, modes_somewhere, shared_by, shared_mode};
 
 use crate::mode::KnownMode;
 use crate::start::Start;
@@ -45,15 +45,9 @@ impl Known {
     pub fn new(device: &DeviceProfile, start: Start) -> Known
         ensures { result ≡ first_known start device.now }
     {
-        accepted_device(device);
-        let mode = first_mode(device, start);
-        let mut modes = ArrayVec::new();
-        for _ in 0..device.pages() {
-            modes.push(mode);
-        }
         Known {
             page: first_page(start),
-            modes,
+            modes: first_modes(device, start),
         }
     }
 
@@ -85,6 +79,16 @@ impl Known {
             PAGE => self.page = Some(value),
             VOUT_MODE => self.learn_mode(device, value),
             _ => {}
+        }
+    }
+
+    /// Forgets VOUT_MODE, where a start does when it is untold.
+    pub fn forget_modes(&mut self, start: Start)
+        ensures { self.new ≡ forget_modes start self.old }
+    {
+        match start {
+            Start::AllKnown | Start::LateFixedMode => {}
+            Start::Late => self.modes.as_mut_slice().fill(None),
         }
     }
 
@@ -120,13 +124,38 @@ fn first_page(start: Start) -> Option<u8>
 }
 
 // VOUT_MODE on each page at first.
-fn first_mode(device: &DeviceProfile, start: Start) -> Option<u8>
-    ensures { result ≡ first_mode start device.now }
+fn first_modes(device: &DeviceProfile, start: Start) -> ArrayVec<Option<u8>, 32>
+    ensures { result.items ≡ first_modes start device.now }
 {
+    accepted_device(device);
     match start {
-        Start::AllKnown | Start::LateFixedMode => Some(device.vout_mode()),
-        Start::Late => None,
+        Start::AllKnown | Start::LateFixedMode => all_known(device.modes()),
+        Start::Late => none_known(device.pages()),
     }
+}
+
+// Each is known.
+fn all_known(known: &[u8]) -> ArrayVec<Option<u8>, 32>
+    requires { length known.now ≤ 32 }
+    ensures { result.items ≡ map Some known.now }
+{
+    let mut modes = ArrayVec::new();
+    for mode in known {
+        modes.push(Some(*mode));
+    }
+    modes
+}
+
+// On no page is one known.
+fn none_known(pages: u8) -> ArrayVec<Option<u8>, 32>
+    requires { pages ≤ 32 }
+    ensures { result.items ≡ replicate pages None }
+{
+    let mut modes = ArrayVec::new();
+    for _ in 0..pages {
+        modes.push(None);
+    }
+    modes
 }
 
 // Whether a device has a VOUT_MODE for each page.

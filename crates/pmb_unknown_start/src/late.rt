@@ -2,17 +2,18 @@
 //!
 //! Its rows: `tests_lines`, `src/late/starts.rt`; `tests_json`, `src/fields/contexts.rt`.
 
-ghost use Rattle.std.specs.Prelude.{◌≡◌, ◌++◌, ◌∷◌, [], List, fold, map, option_map, Some};
+ghost use Rattle.std.specs.Prelude.{◌≡◌, ◌++◌, ◌∷◌, [], if◌then◌else◌, List, fold, map, nat_eq, option_map, Some};
 ghost use Rattle.pmb_command.specs.Parts.{DeviceParts, device_with};
 ghost use Rattle.pmb_transaction.specs.Transaction.{TransactionData, part_data, transaction_data};
 ghost use Rattle.pmb_note.specs.Paging.{told_by_part};
 ghost use Rattle.pmb_unknown_start.specs.declared.start.Start.{Start as StartData};
-ghost use Rattle.pmb_unknown_start.specs.Known.{KnownPaging, first_known, learn_told, learn_transaction};
-ghost use Rattle.pmb_unknown_start.specs.Late.{HasSeen, mode as mode_after, page as page_after};
-ghost use Rattle.pmb_unknown_start.specs.machine.Standing.{Keeps, known_in};
+ghost use Rattle.pmb_unknown_start.specs.Known.{KnownPaging, first_known, forget_modes, learn_told, learn_transaction, learn_written, mode_of};
+ghost use Rattle.pmb_unknown_start.specs.Late.{HasSeen, is_assumed as is_assumed_after, mode as mode_after, page as page_after};
+ghost use Rattle.pmb_unknown_start.specs.machine.Standing.{Keeps, kept_at};
 
 use crate::known::{Known, is_paging};
-use crate::mode::KnownMode;
+use crate::mode::{KnownMode, is_unknown};
+use crate::restores::untells_mode;
 use crate::start::Start;
 use arrayvec::ArrayVec;
 use pmb_table::Profile;
@@ -28,11 +29,18 @@ const ADDRESSES: u8 = 128;
 ///
 /// A PAGE that is not known is one of the device's pages, or ffh. So a VOUT_MODE that is told then is
 /// that of a device's only page, and of several pages those stay known that had the same one.
+///
+/// After a write of RESTORE_DEFAULT_ALL, RESTORE_DEFAULT_CODE, RESTORE_USER_ALL or RESTORE_USER_CODE
+/// (12h, 14h, 16h, 18h), and of VOUT_MODE by PAGE_PLUS_WRITE (05h), VOUT_MODE of that device is
+/// untold: it is unknown again with [`Start::Late`], and keeps its last value with another start.
 #[derive(Drop)]
 pub struct Late<'p> {
     profile: &'p Profile,
+    start: Start,
     /// Of the device at each address; nothing that means anything where there is none.
     known: ArrayVec<Known, 128>,
+    /// The same, had the capture begun in the middle.
+    told: ArrayVec<Known, 128>,
 }
 
 impl<'p> Late<'p> {
@@ -40,12 +48,12 @@ impl<'p> Late<'p> {
     pub fn new(profile: &'p Profile, start: Start) -> Late<'p>
         ensures { HasSeen result profile.now start [] }
     {
-        accepted_bus(profile);
-        let mut known = ArrayVec::new();
-        for address in 0..ADDRESSES {
-            known.push(first_known(profile, address, start));
+        Late {
+            profile,
+            start,
+            known: all_first_known(profile, start),
+            told: all_first_known(profile, Start::Late),
         }
-        Late { profile, known }
     }
 
     /// Takes the next transaction.
@@ -53,7 +61,10 @@ impl<'p> Late<'p> {
         ensures { (profile : List DeviceParts) (start : StartData) (ts : List TransactionData) → HasSeen self.old profile start ts
             → HasSeen self.new profile start (ts ++ transaction_data transaction.now ∷ []) }
     {
-        learn_transaction(self.profile, self.known.as_mut_slice(), transaction);
+        let known = self.known.as_mut_slice();
+        learn_transaction(self.profile, known, self.start, transaction);
+        let told = self.told.as_mut_slice();
+        learn_transaction(self.profile, told, Start::Late, transaction);
     }
 
     /// The value of PAGE of the device with an address, ffh for all pages, also where it has no page of
@@ -62,7 +73,7 @@ impl<'p> Late<'p> {
         ensures { (profile : List DeviceParts) (start : StartData) (ts : List TransactionData) → HasSeen self.now profile start ts
             → result ≡ page_after start profile ts addr }
     {
-        match self.known(addr) {
+        match kept_at(self.profile, self.known.as_slice(), addr) {
             Some(known) => known.page(),
             None => None,
         }
@@ -74,21 +85,29 @@ impl<'p> Late<'p> {
         ensures { (profile : List DeviceParts) (start : StartData) (ts : List TransactionData) → HasSeen self.now profile start ts
             → result ≡ mode_after start profile ts addr }
     {
-        match self.known(addr) {
-            Some(known) => known.mode(),
-            None => KnownMode::NoPage,
-        }
+        mode_in(self.profile, self.known.as_slice(), addr)
     }
 
-    // What is known of the device with an address.
-    fn known(&self, addr: u8) -> Option<&Known>
-        ensures { option_map (λ known. known.now) result ≡ known_in self.now addr }
+    /// Whether this VOUT_MODE is assumed: with [`Start::Late`] it would be [`KnownMode::Unknown`]. What
+    /// isn't assumed is the same with each start.
+    pub fn is_assumed(&self, addr: u8) -> bool
+        ensures { (profile : List DeviceParts) (start : StartData) (ts : List TransactionData) → HasSeen self.now profile start ts
+            → result ≡ is_assumed_after profile ts addr }
     {
-        match self.profile.device(addr) {
-            Some(_) => self.known.as_slice().get(usize::from(addr)),
-            None => None,
-        }
+        is_unknown(mode_in(self.profile, self.told.as_slice(), addr))
     }
+}
+
+// What is known at first of the device at each address.
+fn all_first_known(profile: &Profile, start: Start) -> ArrayVec<Known, 128>
+    ensures { Keeps result.items profile.now (first_known start) }
+{
+    accepted_bus(profile);
+    let mut known = ArrayVec::new();
+    for address in 0..ADDRESSES {
+        known.push(first_known(profile, address, start));
+    }
+    known
 }
 
 // What is known at first of the device with an address, if there is one.
@@ -101,14 +120,39 @@ fn first_known(profile: &Profile, address: u8, start: Start) -> Known
     }
 }
 
+// What is kept of the device with an address.
+fn kept_at<'k>(profile: &Profile, kept: &'k [Known], addr: u8) -> Option<&'k Known>
+    ensures { option_map (λ known. known.now) result ≡ kept_at kept.now profile.now addr }
+{
+    match profile.device(addr) {
+        Some(_) => kept.get(usize::from(addr)),
+        None => None,
+    }
+}
+
+// What is known of the VOUT_MODE of the device with an address, by what is kept.
+fn mode_in(profile: &Profile, kept: &[Known], addr: u8) -> KnownMode
+    ensures { (now : DeviceParts → KnownPaging) → Keeps kept.now profile.now now → result ≡ mode_of now (device_with addr profile.now) }
+{
+    match kept_at(profile, kept, addr) {
+        Some(known) => known.mode(),
+        None => KnownMode::NoPage,
+    }
+}
+
 // Takes what a transaction tells.
-fn learn_transaction(profile: &Profile, known: &mut [Known], transaction: &Transaction)
+fn learn_transaction(
+    profile: &Profile,
+    known: &mut [Known],
+    start: Start,
+    transaction: &Transaction,
+)
     ensures { (now : DeviceParts → KnownPaging) → Keeps known.old profile.now now
-        → Keeps known.new profile.now (λ device. learn_transaction device (now device) (transaction_data transaction.now)) }
+        → Keeps known.new profile.now (λ device. learn_transaction start device (now device) (transaction_data transaction.now)) }
 {
     match transaction {
-        Transaction::Write { parts } => learn_parts(profile, known, parts.as_slice()),
-        Transaction::Refused { parts, .. } => learn_parts(profile, known, parts.as_slice()),
+        Transaction::Write { parts } => learn_parts(profile, known, start, parts.as_slice()),
+        Transaction::Refused { parts, .. } => learn_parts(profile, known, start, parts.as_slice()),
         Transaction::Read {
             addr,
             code,
@@ -119,13 +163,38 @@ fn learn_transaction(profile: &Profile, known: &mut [Known], transaction: &Trans
     }
 }
 
-// Takes what complete parts tell.
-fn learn_parts(profile: &Profile, known: &mut [Known], parts: &[Part])
+// Takes what complete parts wrote.
+fn learn_parts(profile: &Profile, known: &mut [Known], start: Start, parts: &[Part])
     ensures { (now : DeviceParts → KnownPaging) → Keeps known.old profile.now now
-        → Keeps known.new profile.now (λ device. fold (learn_told device) (now device) (map told_by_part (map part_data parts.now))) }
+        → Keeps known.new profile.now (λ device. fold (learn_written start device) (now device) (map told_by_part (map part_data parts.now))) }
 {
     for part in parts {
-        learn_bytes(profile, known, part.addr, part.code, part.bytes.as_slice());
+        learn_written(
+            profile,
+            known,
+            start,
+            part.addr,
+            part.code,
+            part.bytes.as_slice(),
+        );
+    }
+}
+
+// Takes bytes that were written to the device with an address with a code.
+fn learn_written(
+    profile: &Profile,
+    known: &mut [Known],
+    start: Start,
+    addr: u8,
+    code: u8,
+    bytes: &[u8],
+)
+    ensures { (now : DeviceParts → KnownPaging) → Keeps known.old profile.now now
+        → Keeps known.new profile.now (λ device. learn_written start device (now device) (record { addr = addr; code = code; bytes = bytes.now })) }
+{
+    learn_bytes(profile, known, addr, code, bytes);
+    if untells_mode(code, bytes) {
+        forget_modes(profile, known, start, addr);
     }
 }
 
@@ -146,5 +215,19 @@ fn learn_bytes(profile: &Profile, known: &mut [Known], addr: u8, code: u8, bytes
     let place = usize::from(addr);
     if place < known.len() {
         known[place].learn(device, code, *value);
+    }
+}
+
+// VOUT_MODE of the device with an address is untold.
+fn forget_modes(profile: &Profile, known: &mut [Known], start: Start, addr: u8)
+    ensures { (now : DeviceParts → KnownPaging) → Keeps known.old profile.now now
+        → Keeps known.new profile.now (λ device. if nat_eq addr device.address then forget_modes start (now device) else now device) }
+{
+    let Some(_) = profile.device(addr) else {
+        return;
+    };
+    let place = usize::from(addr);
+    if place < known.len() {
+        known[place].forget_modes(start);
     }
 }

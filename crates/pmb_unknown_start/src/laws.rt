@@ -1,19 +1,20 @@
 //! Laws over the definitions of what is known. Each function ensures some, and does nothing.
 
-ghost use Rattle.std.specs.Prelude.{◌≡◌, ◌≢◌, ◌++◌, ℕ, List, None, Some};
+ghost use Rattle.std.specs.Prelude.{◌≡◌, ◌≢◌, ◌++◌, ℕ, false, List, None, Some};
 ghost use Rattle.pmb_command.specs.Bus.{IsBus};
 ghost use Rattle.pmb_command.specs.Parts.{DeviceParts, device_with};
 ghost use Rattle.pmb_transaction.specs.Transaction.{TransactionData};
 ghost use Rattle.pmb_note.specs.Paging.{mode as mode_of_whole, page as page_of_whole};
 ghost use Rattle.pmb_unknown_start.specs.declared.mode.KnownMode.TheVariants.{Known, NoPage};
 ghost use Rattle.pmb_unknown_start.specs.declared.start.Start.{Start};
-ghost use Rattle.pmb_unknown_start.specs.declared.start.Start.TheVariants.{AllKnown};
-ghost use Rattle.pmb_unknown_start.specs.Known.{known, known_mode, mode, page};
+ghost use Rattle.pmb_unknown_start.specs.declared.start.Start.TheVariants.{AllKnown, Late};
+ghost use Rattle.pmb_unknown_start.specs.Known.{is_assumed, known, known_mode, mode, page};
 ghost use Rattle.pmb_unknown_start.specs.Certain.{AgreesWith, CanBeCutAfter, IsCertainMode, IsCertainPage, known_as};
 
 /// What is known is certain: it is so for each VOUT_MODE and each PAGE that the device can have where
-/// the capture begins, one of its pages or ffh. So it is where there is no mode. Not all that is certain
-/// is known: of several pages, where PAGE is not, the mode that was told last is not taken for known.
+/// the capture begins, one of its pages or ffh, and late also for each VOUT_MODE that a page can have
+/// after it was untold. So it is where there is no mode. Not all that is certain is known: of several
+/// pages, where PAGE is not, the mode that was told last is not taken for known.
 pub fn what_is_known_is_certain()
     ensures mode { (start : Start) (device : DeviceParts) (ts : List TransactionData) (mode : ℕ) → known_mode (known start device ts) ≡ Known mode
         → IsCertainMode start device ts (Some mode) }
@@ -31,6 +32,13 @@ pub fn pieces_say_what_the_whole_says()
         → AgreesWith (mode start profile piece addr) (mode_of_whole profile (before ++ piece) addr) }
     ensures page { (profile : List DeviceParts) (start : Start) (before piece : List TransactionData) (addr : ℕ) (number : ℕ) → start ≢ AllKnown
         → page start profile piece addr ≡ Some number → page_of_whole profile (before ++ piece) addr ≡ Some number }
+{}
+
+/// What is not assumed is the same with each start: where the mode would be known, or known not to be,
+/// had the capture begun in the middle, it is so from the beginning, and where VOUT_MODE is fixed.
+pub fn what_is_not_assumed_is_so_from_each_start()
+    ensures { (profile : List DeviceParts) (start : Start) (ts : List TransactionData) (addr : ℕ) → IsBus profile
+        → is_assumed profile ts addr ≡ false → mode start profile ts addr ≡ mode Late profile ts addr }
 {}
 
 /// Where all is known from the start, it is what a `pmb_note::Context` says.

@@ -3,7 +3,8 @@
 //! A [`Late`] follows the transactions on a bus as a `pmb_note::Context` does. Where that takes PAGE
 //! and VOUT_MODE for their first values, they are unknown here until the transactions tell them. What
 //! is known holds for each VOUT_MODE and each PAGE that a device can have where the capture begins: one
-//! of its pages, or ffh. [`Start`] says what is known at first.
+//! of its pages, or ffh. [`Start`] says what is known at first. With each start, [`Late::is_assumed`]
+//! says whether VOUT_MODE is assumed: it would not be known, had the capture begun in the middle.
 //!
 //! ```rust
 //! let profile = Profile::from_toml(rt.alloc(), SAMPLE.as_bytes())?;
@@ -12,6 +13,7 @@
 //! late.observe(&parse_line(&profile, b"write 59 20 14")?);
 //! assert_eq!(rt; late.mode(0x59), KnownMode::Known(0x14));
 //! assert_eq!(rt; late.page(0x59), None);
+//! assert!(rt; !late.is_assumed(0x59));
 //! ```
 #![tactic(auto)]
 
@@ -19,6 +21,7 @@ mod known;
 mod late;
 pub mod laws;
 mod mode;
+mod restores;
 mod start;
 
 pub use late::Late;

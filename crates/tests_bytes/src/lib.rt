@@ -1,6 +1,6 @@
 //! Tests of bytes: capture text, packet error codes and addresses (`pmb_bus`), places in a text
-//! (`pmb_places`), C functions that allocate nothing (`pmb_firmware`), readers and writers
-//! (`pmb_io`).
+//! (`pmb_places`), times that its comments tell (`pmb_times`), C functions that allocate nothing
+//! (`pmb_firmware`), readers and writers (`pmb_io`).
 #![tactic(auto)]
 
 #[cfg(test)]
@@ -13,3 +13,5 @@ mod firmware;
 mod io;
 #[cfg(test)]
 mod places;
+#[cfg(test)]
+mod times;

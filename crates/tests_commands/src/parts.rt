@@ -94,7 +94,7 @@ fn commands(rt: HostRuntime) {
         let device = profile.device(0x10).expect(&rt, "a device");
         check_entry(&rt, keys, device.entry(parts.0), parts);
         check_entry(&rt, keys, device.entry_at(0), parts);
-        let found = (device.len(), device.initial(parts.0));
+        let found = (device.len(), device.initial(parts.0, 0));
         same(&rt, ("at", keys), found, (1, *initial));
     }
 }

@@ -135,8 +135,15 @@ fn devices(rt: HostRuntime) {
         };
         let found = (device.address(), device.pec(), device.pages());
         same(&rt, name, found, (*address, *pec, *pages));
-        let found = (device.vout_mode(), device.vout_direct());
-        same(&rt, name, found, (*vout_mode, coefficients));
+        let modes = device.modes();
+        let found = (device.vout_mode(), modes.len(), device.vout_direct());
+        same(
+            &rt,
+            name,
+            found,
+            (*vout_mode, usize::from(*pages), coefficients),
+        );
+        same(&rt, name, modes.last(), Some(vout_mode));
         let end = index_of(*end);
         let behind = code_of(device.entry_at(end));
         let found = (device.len(), behind, code_of(device.entry(0xc8)));
@@ -195,8 +202,8 @@ fn sample_commands(rt: HostRuntime) {
         let device = profile.device(*address).expect(&rt, name);
         check_entry(&rt, name, device.entry_at(index_of(*place)), parts);
         check_entry(&rt, name, device.entry(parts.0), parts);
-        same(&rt, name, device.initial(parts.0), *initial);
-        let found = (device.initial(0x21), device.initial(0xc8));
+        same(&rt, name, device.initial(parts.0, 1), *initial);
+        let found = (device.initial(0x21, 0), device.initial(0xc8, 0));
         same(&rt, name, found, (None, None));
     }
 }
@@ -260,6 +267,6 @@ fn ordered_devices(rt: HostRuntime) {
     for (name, address, end, initial) in &ORDERED {
         let device = profile.device(*address).expect(&rt, name);
         same(&rt, name, device.len(), index_of(*end));
-        same(&rt, name, device.initial(0x88), Some(*initial));
+        same(&rt, name, device.initial(0x88, 0), Some(*initial));
     }
 }

@@ -55,6 +55,7 @@ fn late_objects<'p, R: Source, W: Sink>(
         digits: Digits::default(),
         start: Start::Late,
         devices,
+        ignored: None,
     };
     json(profile, choice, AfterBadToken::End, first, reader, writer)
 }

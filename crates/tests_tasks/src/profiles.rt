@@ -2,10 +2,11 @@
 
 use pmb_hints::hints;
 use pmb_io::Io;
-use pmb_keys::{array_of, only, present, read_command, read_device_keys};
+use pmb_keys::{Ignored, array_of, only, present, read_command, read_device_keys};
 use pmb_profile_text::describe;
 use pmb_table::{
-    FaultKind, Form, PecMode, Profile, ProfileFault, SAMPLE, bit_name, by_name, standard,
+    BusProfile, FaultKind, Form, PecMode, Profile, ProfileFault, SAMPLE, bit_name, by_name,
+    standard,
 };
 use std::test::Fail;
 use toml::Value;
@@ -23,7 +24,7 @@ fn standard_commands_have_names(rt: HostRuntime) -> Result<(), Fail> {
 
 /// What the keys of a device say of its address and of packet error codes.
 fn address_and_pec(value: &Value) -> Result<(u8, PecMode), FaultKind> {
-    match read_device_keys(value, &[]) {
+    match read_device_keys(value, &[], &Ignored::none()) {
         Ok(keys) => Ok((keys.address, keys.pec)),
         Err(what) => Err(what),
     }
@@ -40,7 +41,7 @@ fn keys_are_read(rt: HostRuntime) -> Result<(), Fail> {
     let array = present(inner, "command")?;
     let commands = array_of(array)?;
     let first = commands.first().ok_or("no command")?;
-    let command = read_command(rt.alloc(), first, &[])?;
+    let command = read_command(rt.alloc(), first, 1, &[])?;
     assert!(rt; command.entry.code == 0x88);
     Ok(())
 }
@@ -52,14 +53,14 @@ fn a_profile_has_devices(rt: HostRuntime) -> Result<(), Fail> {
     assert!(rt; device.pec() == PecMode::Optional);
     let entry = device.entry(0x88).ok_or("no command")?;
     assert!(rt; entry.name.as_str() == "READ_VIN");
-    assert!(rt; device.initial(0x88) == Some(b"\x00\xd3".as_slice()));
+    assert!(rt; device.initial(0x88, 1) == Some(b"\x00\xd3".as_slice()));
     Ok(())
 }
 
 #[test]
 fn a_bus_is_described(rt: HostRuntime) -> Result<(), Fail> {
     let text = b"[[device]]\naddress = 0x20\npec = \"off\"\nstandard = false\n";
-    let profile = Profile::from_toml(rt.alloc(), text)?;
+    let profile = BusProfile::from_toml(rt.alloc(), text)?;
     let mut written = Vec::new(rt.alloc());
     let mut writer = Io::new(&mut written);
     assert!(rt; describe(&profile, &mut writer) == Ok(()));

@@ -1,18 +1,20 @@
 //! Whole inputs, into a writer and into rooms.
 
-use pmb_cli::{AfterBadToken, Choice, Digits, Io, Start};
-use pmb_in_memory::{MemoryTask, Put, WholeFault, put_json, put_whole, write_json, write_whole};
+use pmb_cli::{AfterBadToken, Digits, Io, Start};
+use pmb_in_memory::{
+    JsonChoice, MemoryTask, Put, WholeFault, put_json, put_whole, write_json, write_whole,
+};
 use pmb_io::Tally;
 use pmb_table::{FaultKind, ProfileFault, SAMPLE};
 use std::test::Fail;
 
 const END: &str = "{\"kind\":\"end\",\"packets\":0,\"refusals\":0,\"bad_tokens\":0}\n";
 
-fn all() -> Choice<'static> {
-    Choice {
+fn all_known() -> JsonChoice {
+    JsonChoice {
         digits: Digits::default(),
         start: Start::AllKnown,
-        devices: b"",
+        bad_words: AfterBadToken::End,
     }
 }
 
@@ -55,25 +57,11 @@ fn texts_are_written_and_put(rt: HostRuntime) -> Result<(), Fail> {
 fn objects_are_written_and_put(rt: HostRuntime) -> Result<(), Fail> {
     let sample = SAMPLE.as_bytes();
     let mut writer = Io::new(Vec::new(rt.alloc()));
-    let written = write_json(
-        all(),
-        AfterBadToken::End,
-        rt.alloc(),
-        sample,
-        b"",
-        &mut writer,
-    );
+    let written = write_json(all_known(), b"", rt.alloc(), sample, b"", &mut writer);
     assert!(rt; written == Ok(Tally::new()));
     assert!(rt; writer.into_inner().as_slice() == END.as_bytes());
     let mut room = [b'~'; 8];
-    let put = put_json(
-        all(),
-        AfterBadToken::End,
-        rt.alloc(),
-        sample,
-        b"",
-        &mut room,
-    );
+    let put = put_json(all_known(), b"", rt.alloc(), sample, b"", &mut room);
     let length = END.len();
     assert!(rt;
         put == Ok(Put {

@@ -1,6 +1,6 @@
 -- Where a `Json` is within its capture.
 use Rattle.std.proofs.Common.{append_assoc, subst, sym}
-use Rattle.std.specs.Prelude.{◌≡◌, ◌⊎◌, ◌<◌, ℕ, List, [], ◌∷◌, ◌++◌, filter, length}
+use Rattle.std.specs.Prelude.{◌≡◌, ◌⊎◌, ◌<◌, ℕ, Option, List, [], ◌∷◌, ◌++◌, filter, length}
 use Rattle.pmb_bus.specs.Text.{EndsBetween, FirstBadWord, front_word, open_word}
 use Rattle.pmb_command.specs.Parts.{DeviceParts}
 use Rattle.pmb_io.specs.Lines.{HasNoLf}
@@ -16,21 +16,23 @@ use Rattle.pmb_json.specs.Json.{StopsJson}
 use Rattle.pmb_json.specs.SoFar.{SoFarFrom}
 use Rattle.pmb_json.specs.machine.Ends.{IsOver}
 use Rattle.pmb_json.specs.Text.{BadLine, IsBehindLine, ObjectsFrom, WritesJson, at_word, bad_line_objects}
-use Rattle.pmb_json.specs.Text.{front_objects}
+use Rattle.pmb_json.specs.Text.{front_objects, last_objects}
 use Rattle.pmb_json_objects.specs.BadToken.{bad_token_object}
-use Rattle.pmb_json_objects.specs.Counts.{CountsData, after_bad_token, end_objects}
+use Rattle.pmb_json_objects.specs.Counts.{CountsData, after_bad_token}
 use Rattle.pmb_json_objects.specs.Object.{Object, object_lines}
 use Rattle.pmb_places.specs.Places.{place_of_last_word}
 use Rattle.pmb_io.specs.Count.{capped}
 use Rattle.pmb_scan.specs.declared.scan.Scan.{Scan}
 use Rattle.pmb_scan.specs.Reached.{Reached}
 use Rattle.pmb_scan.specs.Scan.{ScanStandsAt}
-use Rattle.pmb_spans.specs.Spans.{Span, SpansFrom, is_whole}
+use Rattle.pmb_spans.specs.Spans.{Span, SpansFrom}
 use Rattle.pmb_json_stream.specs.declared.stream.Stream.{Stream}
 use Rattle.pmb_json_stream.specs.Before.{Before, at_first, with_bytes}
 use Rattle.pmb_json_stream.specs.Choice.{ChoiceData}
+use Rattle.pmb_json_stream.specs.Others.{is_told}
 use Rattle.pmb_json_stream.specs.Stream.{StreamBegins, StreamKnows, StreamStands, stream_choice, stream_profile}
-use Rattle.pmb_json_stream.specs.Stream.{stream_tally}
+use Rattle.pmb_json_stream.specs.Stream.{stream_tally, stream_time}
+use Rattle.pmb_json_stream.specs.UnderWay.{open_time}
 
 -- ---- what it was made with
 
@@ -60,26 +62,33 @@ pub record IsMadeAs (start now : Json) : Type 0 where
 abbrev pub longer_line : BadLine → List ℕ → BadLine
 longer_line bad more = record bad { line = bad.line ++ more }
 
--- after its bytes so far, and where its word's object was counted too
-abbrev pub behind_bytes : Before → BadLine → Before
-behind_bytes b bad = with_bytes (at_word b bad) bad.line
+-- after its bytes so far, where these addresses are ignored, and where its word's object was counted
+-- too
+abbrev pub behind_bytes : Option (List ℕ) → Before → BadLine → Before
+behind_bytes ignored b bad = with_bytes (at_word ignored b bad) bad.line
 
-abbrev pub behind_object : Before → BadLine → Before
-behind_object b bad = record (behind_bytes b bad) { counts = after_bad_token (at_word b bad).counts }
+abbrev pub behind_object : Option (List ℕ) → Before → BadLine → Before
+behind_object ignored b bad = record (behind_bytes ignored b bad) {
+  counts = after_bad_token (at_word ignored b bad).counts;
+}
 
--- what is put out of a word that is no token where reading ends there
-abbrev pub last_word_objects : Before → List Object
-last_word_objects b = bad_token_object (capped b.n) (place_of_last_word b.read) (open_word b.read)
-    ∷ end_objects (after_bad_token b.counts)
+-- the object of the word under way, which is no token, with the time of what is under way
+abbrev pub open_word_object : Option (List ℕ) → Before → Object
+open_word_object time b = bad_token_object
+    (record { at = capped b.n; place = place_of_last_word b.read; time = time }) (open_word b.read)
 
 module _ (choice : ChoiceData) (profile : List DeviceParts) where
+  -- what is put out of it where reading ends there
+  abbrev pub last_word_objects : Option (List ℕ) → Before → List Object
+  last_word_objects time b = open_word_object time b ∷ last_objects choice profile (after_bad_token b.counts)
+
   -- Its word is no token, whatever follows after the bytes at hand.
   pub record IsBadSoFar (b : Before) (bad : BadLine) (at_hand : List ℕ) : Type 0 where
     pub word : (more : List ℕ) → FirstBadWord (bad.front ++ (bad.line ++ (at_hand ++ more))) bad.events
         (length bad.front)
     pub all : List Span
     pub reads : SpansFrom profile b.n bad.events all
-    pub reported : bad.spans ≡ filter is_whole all
+    pub reported : bad.spans ≡ filter (is_told choice.ignored) all
 
   -- ---- where it is after `b`: these bytes were used since, and this text was put out
 
@@ -100,7 +109,8 @@ module _ (choice : ChoiceData) (profile : List DeviceParts) where
     pub so_far : IsBadSoFar b bad at_hand
     pub is_text : bytes ≡ bad.front ++ bad.line
     pub under_way : front_word bad.line ≡ bad.line
-    pub knows : StreamKnows (behind_bytes b bad) stream
+    pub knows : StreamKnows (behind_bytes choice.ignored b bad) stream
+    pub time : stream_time stream ≡ open_time bad.front bad.events
     pub lines : (more : List ℕ) → text ≡ object_lines choice.devices
         (front_objects choice profile b (longer_line bad more))
 
@@ -123,7 +133,7 @@ module _ (choice : ChoiceData) (profile : List DeviceParts) where
     -- whatever follows, more is told of no word under way
     pub over : (whole more : List ℕ) → whole ≡ bad.line ++ (at_hand ++ more) → front_word whole ≡ whole
         → length whole < 32 → ⊥
-    pub knows : StreamKnows (behind_object b bad) stream
+    pub knows : StreamKnows (behind_object choice.ignored b bad) stream
     -- whatever follows, up to the end of the line
     pub lines : (more line rest : List ℕ) → at_hand ++ more ≡ line ++ rest → IsBehindLine rest
         → text ≡ object_lines choice.devices (bad_line_objects choice profile b (longer_line bad line))

@@ -4,8 +4,9 @@ use Rattle.pmb_io.specs.Count.{capped}
 use Rattle.pmb_json_objects.specs.declared.counts.Counts.{Counts}
 use Rattle.pmb_json_objects.specs.declared.counts.DeviceCounts.{DeviceCounts}
 use Rattle.pmb_json_objects.specs.declared.counts.What.{What}
-use Rattle.pmb_json_objects.specs.declared.counts.What.TheVariants.{Write, Read, Call, Refused, Refusal}
-use Rattle.pmb_json_objects.specs.Counts.{CountsData, DeviceData, none_counted, writes_alone}
+use Rattle.pmb_json_objects.specs.declared.counts.What.TheVariants.{Write, Read, Call, Refused, Refusal, Other}
+use Rattle.pmb_json_objects.specs.Counts.{CountsData, DeviceData, calls_alone, none_counted, others_alone, reads_alone}
+use Rattle.pmb_json_objects.specs.Counts.{refusals_alone, writes_alone}
 
 abbrev pub device_counts : DeviceData → DeviceCounts
 device_counts d = record {
@@ -15,15 +16,17 @@ device_counts d = record {
   refused =
       capped d.refused;
   refusals = capped d.refusals;
+  others = capped d.others;
 }
 
 -- one of a sort
 abbrev pub one_of : What → DeviceData
 one_of Write = writes_alone 1
-one_of Read = record { writes = 0; reads = 1; calls = 0; refused = 0; refusals = 0 }
-one_of Call = record { writes = 0; reads = 0; calls = 1; refused = 0; refusals = 0 }
-one_of Refused = record { writes = 0; reads = 0; calls = 0; refused = 1; refusals = 0 }
-one_of Refusal = record { writes = 0; reads = 0; calls = 0; refused = 0; refusals = 1 }
+one_of Read = reads_alone 1
+one_of Call = calls_alone 1
+one_of Refused = record none_counted { refused = 1 }
+one_of Refusal = refusals_alone 1
+one_of Other = others_alone 1
 
 -- .. of the device with an address
 abbrev pub one_at : ℕ → What → ℕ → DeviceData
@@ -39,3 +42,4 @@ pub record CountsAre (counts : Counts) (known : CountsData) : Type 0 where
   pub packets : counts.packets ≡ capped known.packets
   pub refusals : counts.refusals ≡ capped known.refusals
   pub bad_tokens : counts.bad_tokens ≡ capped known.bad_tokens
+  pub others : counts.others ≡ capped known.others

@@ -6,11 +6,16 @@ use Rattle.pmb_reader.specs.declared.reader.Took.{Took}
 use Rattle.pmb_reader.specs.declared.reader.Took.TheVariants as answers
 use Rattle.pmb_reader.specs.Reader.{Open, last_read}
 use Rattle.pmb_reader.specs.Refusal.{refusal_data}
-use Rattle.pmb_scan.specs.Reached.{Reached, behind_event, behind_packet, behind_refusal}
+use Rattle.pmb_scan.specs.Reached.{Reached, MayGoOn, behind_event, behind_packet, behind_refusal}
 use Rattle.pmb_scan.specs.machine.Standing.{ReaderReached}
 use Rattle.pmb_transaction.specs.Packet.{Packet}
 use Rattle.pmb_transaction.specs.Reading.{RefusedAt, RefusalData}
 use Rattle.pmb_transaction.specs.Transaction.{TransactionData}
+
+-- it ends no packet, and is not refused
+pub record GoesOn (reached : Reached) (event : Event) (after : Reader) : Type 0 where
+  pub may : MayGoOn reached.standing event
+  pub reads : ReaderReached after (behind_event reached event)
 
 -- it ends the packet of a transaction
 pub record EndsPacket (reached : Reached) (event : Event) (t : TransactionData) (after : Reader) : Type 0 where
@@ -29,6 +34,6 @@ pub record IsRefused (reached : Reached) (event : Event) (refusal : RefusalData)
   pub reads : ReaderReached after (behind_refusal reached n front event refusal)
 
 abbrev pub ReportsAs : Reached → Event → Took → Reader → Type 0
-ReportsAs reached event answers.Continues after = ReaderReached after (behind_event reached event)
+ReportsAs reached event answers.Continues after = GoesOn reached event after
 ReportsAs reached event answers.Packet after = EndsPacket reached event (last_read after) after
 ReportsAs reached event (answers.Refused refusal) after = IsRefused reached event (refusal_data refusal) after

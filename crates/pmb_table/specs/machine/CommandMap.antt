@@ -1,6 +1,7 @@
 -- What is true of the commands of a device, and what contracts see of the map that holds them.
 use Rattle.std.specs.Prelude.{◌≡◌, ℕ, ◌<◌, None, List, [], ◌∷◌, ◌++◌, length, map, nat_eq, Result, Ok}
 use Rattle.std.specs.List.{AllByRecursion, IsDistinct}
+use Rattle.pmb_command.specs.Bus.{HasItemForEach, IsCommand}
 use Rattle.pmb_command.specs.Parts.{CommandParts}
 use Rattle.pmb_keys.specs.declared.command.Command.{Command}
 use Rattle.pmb_keys.specs.CommandView.{command_parts}
@@ -31,6 +32,11 @@ without_initial c = record { entry = c.entry; initial = None }
 abbrev pub bare_entry : ℕ × Command → ℕ × Command
 bare_entry e = (e.0, record { entry = e.1.entry; initial = None })
 
+-- a command that a device with so many pages may have
+pub record IsCommandOf (pages : ℕ) (c : CommandParts) : Type 0 where
+  pub command : IsCommand c
+  pub items : HasItemForEach pages c.initial
+
 -- codes of commands, none of them twice
 abbrev pub AreTaken : List ℕ → Type 0
 AreTaken codes = IsDistinct nat_eq codes × AllByRecursion (λ code. code < 256) codes
@@ -46,6 +52,6 @@ abbrev pub Taken : Type 0
 Taken = List ℕ × List CommandParts
 
 -- those after one more table
-abbrev pub after_one : ℕ → Taken → Data → Result Taken ProfileFault
-after_one n t d = bind (placed (at_command n (length t.0)) (command_of t.0 d))
+abbrev pub after_one : ℕ → ℕ → Taken → Data → Result Taken ProfileFault
+after_one n pages t d = bind (placed (at_command n (length t.0)) (command_of pages t.0 d))
     (λ c. Ok (t.0 ++ c.entry.code ∷ [], put c t.1))

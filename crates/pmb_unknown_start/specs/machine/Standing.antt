@@ -6,20 +6,26 @@ use Rattle.pmb_transaction.specs.Transaction.{TransactionData}
 use Rattle.pmb_unknown_start.specs.Known.{KnownPaging, known}
 use Rattle.pmb_unknown_start.specs.declared.late.Late.{Late}
 use Rattle.pmb_unknown_start.specs.declared.start.Start.{Start}
+use Rattle.pmb_unknown_start.specs.declared.start.Start.TheVariants as starts
 
 -- At the address of each device of an accepted profile it is kept what is known of it.
 abbrev pub Keeps : List KnownPaging → List DeviceParts → (DeviceParts → KnownPaging) → Type 0
 Keeps kept profile now = KeptByAddress kept profile now
 
--- A `Late` of a profile keeps those.
-pub record StandsSo (late : Late) (profile : List DeviceParts) (now : DeviceParts → KnownPaging) : Type 0 where
+-- A `Late` of a profile keeps what is known by its start, and what is told: what would be known, had
+-- the capture begun in the middle.
+pub record StandsSo (late : Late) (profile : List DeviceParts) (start : Start)
+    (now late_now : DeviceParts → KnownPaging) : Type 0 where
   pub profile_is : late.profile.now ≡ profile
-  pub kept : Keeps late.known.items profile now
+  pub start_is : late.start ≡ start
+  pub known : Keeps late.known.items profile now
+  pub told : Keeps late.told.items profile late_now
 
 -- A `Late` of a profile was given these transactions.
 abbrev pub HasSeen : Late → List DeviceParts → Start → List TransactionData → Type 0
-HasSeen late profile start ts = StandsSo late profile (λ device. known start device ts)
+HasSeen late profile start ts = StandsSo late profile start (λ device. known start device ts)
+    (λ device. known starts.Late device ts)
 
--- what it keeps of the device with an address
-abbrev pub known_in : Late → ℕ → Option KnownPaging
-known_in late addr = option_and_then (λ _. slice_get late.known.items addr) (device_with addr late.profile.now)
+-- what is kept in a list for the device with an address
+abbrev pub kept_at : List KnownPaging → List DeviceParts → ℕ → Option KnownPaging
+kept_at kept profile addr = option_and_then (λ _. slice_get kept addr) (device_with addr profile)

@@ -3,12 +3,13 @@
 use std::alloc::{AllocError, Global};
 
 /// Three devices with the same commands, one for each way to treat packet error codes: every form,
-/// paged and not, status registers of one byte and of two, commands that are written alone, read
-/// alone, or called as well, and coefficients.
+/// paged and not, first values that differ from page to page, status registers of one byte and of two,
+/// commands that are written alone, read alone, or called as well, and coefficients.
 pub const EVERY_KIND: &str = r#"[[device]]
 address = 0x20
 pec = "off"
 pages = 3
+vout_mode = [0x17, 0x18, 0x40]
 standard = false
 vout_direct = { m = -2, b = 300, r = -1 }
 command = [
@@ -22,7 +23,7 @@ command = [
     { name = "MFR_ID", initial = "414243" },
     { name = "SMBALERT_MASK" },
     { code = 0xe0, write = "block", read = "block", paged = true },
-    { code = 0xe1, write = "four", read = "four", paged = true, initial = "01020304" },
+    { code = 0xe1, write = "four", read = "four", paged = true, initial = ["01020304", "05060708", "090a0b0c"] },
     { code = 0xe2, write = "eight", read = "eight" },
     { code = 0xe3, write = "one", read = "one", kind = "status", initial = "ff" },
     { code = 0xe4, write = "two" },

@@ -83,15 +83,16 @@ fn zeros(alloc: Global, form: Form) -> Result<Vec<u8>, AllocError> {
 fn first_bytes(
     alloc: Global,
     device: &DeviceProfile,
+    page: u8,
     code: u8,
     form: Form,
 ) -> Result<Vec<u8>, AllocError> {
     if code == 0x20 {
         let mut bytes = Vec::new(alloc);
-        bytes.push(device.vout_mode())?;
+        bytes.push(device.modes().get(usize::from(page)).copied().unwrap_or(0))?;
         return Ok(bytes);
     }
-    match device.initial(code) {
+    match device.initial(code, page) {
         Some(bytes) => Vec::from_slice(alloc, bytes),
         None => zeros(alloc, form),
     }
@@ -105,12 +106,13 @@ impl<'p> PlainRegisters<'p> {
                 && let Some(form) = form_of(entry)
             {
                 for page in 0..device.pages() {
+                    let first = if entry.paged { page } else { 0 };
                     held.push(Held {
                         code: entry.code,
                         page,
                         paged: entry.paged,
                         status: entry.kind == Kind::Status,
-                        bytes: first_bytes(alloc, device, entry.code, form)?,
+                        bytes: first_bytes(alloc, device, first, entry.code, form)?,
                     })?;
                 }
             }

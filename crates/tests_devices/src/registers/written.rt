@@ -47,8 +47,25 @@ command = [
 ]
 "#;
 
+/// A device whose pages begin with values of their own.
+const EACH: &str = r#"[[device]]
+address = 0x20
+pec = "off"
+pages = 2
+vout_mode = [0x13, 0x14]
+standard = false
+command = [
+    { name = "PAGE" },
+    { name = "VOUT_MODE" },
+    { name = "VOUT_COMMAND" },
+    { name = "READ_VOUT", initial = ["0018", "0010"] },
+    { code = 0xe0, read = "block", paged = true, initial = ["41", ""] },
+    { code = 0xe1, read = "two", initial = "0102" },
+]
+"#;
+
 #[rattlefmt::skip]
-static ROWS: [Row; 9] = [
+static ROWS: [Row; 10] = [
     ("the first values of the sample", SAMPLE, 0x58, &[
         Holds(0, 0x00, b"\x00"), Lacks(0, 0x03), Holds(0, 0x20, b"\x17"), Holds(1, 0x20, b"\x17"),
         Holds(0, 0x21, b"\x00\x00"), Lacks(2, 0x21), Lacks(0, 0x30), Holds(0, 0x88, b"\x00\xd3"),
@@ -62,6 +79,13 @@ static ROWS: [Row; 9] = [
         Holds(0, 0xe3, b"\xff"), Holds(0, 0xe4, b"\x01\x02"), Holds(0, 0xe5, b"\x00\x00"),
         Lacks(0, 0xe6), Holds(1, 0xe7, b"AB"), Holds(0, 0xe8, b"\x00\x00\x00\x00"),
         Holds(1, 0xe8, b"\x00\x00\x00\x00"),
+    ]),
+    ("the first values of each page", EACH, 0x20, &[
+        Holds(0, 0x20, b"\x13"), Holds(1, 0x20, b"\x14"), Lacks(2, 0x20),
+        Holds(1, 0x21, b"\x00\x00"), Holds(0, 0x8b, b"\x00\x18"), Holds(1, 0x8b, b"\x00\x10"),
+        Holds(0, 0xe0, b"A"), Holds(1, 0xe0, b""), Holds(1, 0xe1, b"\x01\x02"),
+        Write(0x00, b"\x01"), Write(0x20, b"\x15"), Holds(0, 0x20, b"\x13"),
+        Holds(1, 0x20, b"\x15"),
     ]),
     ("a register that is not paged is written for each page", OWN, 0x20, &[
         Write(0x00, b"\x01"), Write(0xe0, b"\x05\x06\x07\x08"),

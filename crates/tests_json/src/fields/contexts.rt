@@ -1,19 +1,22 @@
 //! An output voltage by what transactions have told of PAGE and VOUT_MODE, told by hand.
 
 use crate::compare::same;
-use crate::fields::contexts::Says::{Raw, Value};
-use crate::fields::says::{Text, raw, said, under, value};
+use crate::fields::contexts::Says::{Assumed, Raw, Value};
+use crate::fields::says::{Text, assumed, raw, said, under, value};
 use pmb_command::Kind;
+use pmb_json_fields::Basis;
 use pmb_line::parse_line;
 use pmb_table::Profile;
-use pmb_unknown_start::Start::{AllKnown, Late};
+use pmb_unknown_start::Start::{AllKnown, Late, LateFixedMode};
 use pmb_unknown_start::{KnownMode, Start};
 use std::test::Fail;
 
-/// What is said of the word 1800h: its value, which is the nearest number too, or why it has none.
+/// What is said of the word 1800h: its value, which is the nearest number too, by a mode that was told
+/// or one that is assumed, or why it has none.
 #[derive(Clone, Copy, Drop)]
 enum Says {
     Value(&'static str),
+    Assumed(&'static str),
     Raw(&'static str),
 }
 
@@ -25,7 +28,8 @@ fn rows() -> &'static [Row] {
     &ROWS
 }
 
-/// 58h has two pages, 59h one. 12 is 1800h with the exponent -9, and 1.5 with -12.
+/// 58h and 5ah have two pages, with one VOUT_MODE and with two, and 59h has one page. 12 is 1800h with
+/// the exponent -9, and 1.5 with -12.
 static PROFILE: &str = r#"[[device]]
 address = 0x58
 pec = "optional"
@@ -36,20 +40,33 @@ vout_mode = 0x17
 address = 0x59
 pec = "off"
 vout_mode = 0x17
+
+[[device]]
+address = 0x5a
+pec = "off"
+pages = 2
+vout_mode = [0x17, 0x14]
 "#;
 
 #[rattlefmt::skip]
-static ROWS: [Row; 17] = [
-    (AllKnown, "", 0x58, Value("12")),
+static ROWS: [Row; 33] = [
+    (AllKnown, "", 0x58, Assumed("12")),
     (AllKnown, "", 0x20, Raw("page")),
     (AllKnown, "write 58 00 05", 0x58, Raw("page")),
     (AllKnown, "write 58 20 14\nwrite 58 00 ff", 0x58, Raw("page")),
-    (AllKnown, "write 58 00 ff", 0x58, Value("12")),
+    (AllKnown, "write 58 00 ff", 0x58, Assumed("12")),
     (AllKnown, "write 58 00 ff\nwrite 58 20 14", 0x58, Value("1.5")),
-    (AllKnown, "write 58 20 14", 0x58, Value("1.5")),
+    (AllKnown, "write 58 20 14", 0x58, Assumed("1.5")),
+    (AllKnown, "write 59 20 14", 0x59, Value("1.5")),
+    (AllKnown, "write 58 00 00\nwrite 58 20 14", 0x58, Value("1.5")),
+    (AllKnown, "write 59 20 14\nwrite 59 12", 0x59, Assumed("1.5")),
     (AllKnown, "write 58 20 40", 0x58, Raw("coefficients")),
+    (LateFixedMode, "", 0x58, Assumed("12")),
+    (LateFixedMode, "write 59 20 14", 0x59, Value("1.5")),
+    (LateFixedMode, "write 59 20 14\nwrite 59 12", 0x59, Assumed("1.5")),
     (Late, "", 0x58, Raw("unknown")),
     (Late, "write 59 20 14", 0x59, Value("1.5")),
+    (Late, "write 59 20 14\nwrite 59 12", 0x59, Raw("unknown")),
     (Late, "write 58 20 14", 0x58, Raw("unknown")),
     (Late, "write 58 00 01", 0x58, Raw("unknown")),
     (Late, "write 58 00 01\nwrite 58 20 14", 0x58, Value("1.5")),
@@ -57,33 +74,50 @@ static ROWS: [Row; 17] = [
     (Late, "write 58 00 00\nwrite 58 20 14\nwrite 58 00 01\nwrite 58 20 17\nwrite 58 00 ff", 0x58, Raw("page")),
     (Late, "write 58 00 01\nwrite 58 20 20", 0x58, Raw("vid")),
     (Late, "write 58 00 05", 0x58, Raw("page")),
+    (AllKnown, "", 0x5a, Assumed("12")),
+    (AllKnown, "write 5a 00 01", 0x5a, Assumed("1.5")),
+    (AllKnown, "write 5a 00 ff", 0x5a, Raw("page")),
+    (LateFixedMode, "", 0x5a, Raw("unknown")),
+    (LateFixedMode, "write 5a 00 01", 0x5a, Assumed("1.5")),
+    (LateFixedMode, "write 5a 00 ff", 0x5a, Raw("page")),
+    (LateFixedMode, "write 5a 20 14", 0x5a, Raw("unknown")),
+    (LateFixedMode, "write 5a 20 14\nwrite 5a 00 01", 0x5a, Assumed("1.5")),
+    (Late, "write 5a 00 01", 0x5a, Raw("unknown")),
 ];
 
-/// What is known of a device's VOUT_MODE after the transactions that lines spell; nothing where a line
-/// spells none.
-fn mode_after(profile: &Profile, start: Start, lines: &str, address: u8) -> Option<KnownMode> {
+/// What is known of a device's VOUT_MODE after the transactions that lines spell, and what it rests on;
+/// nothing where a line spells none.
+fn mode_after(
+    profile: &Profile,
+    start: Start,
+    lines: &str,
+    address: u8,
+) -> Option<(KnownMode, Basis)> {
     let mut known = pmb_unknown_start::Late::new(profile, start);
     for line in lines.lines() {
         known.observe(&parse_line(profile, line.as_bytes()).ok()?);
     }
-    Some(known.mode(address))
+    Some((known.mode(address), Basis::of(known.is_assumed(address))))
 }
 
 /// What is said of the word 1800h under a VOUT_MODE.
-fn voltage(mode: KnownMode) -> Text {
-    said(&under(mode, None), 0x8b, Kind::Vout, &[0x00, 0x18])
+fn voltage(mode: KnownMode, basis: Basis) -> Text {
+    let mut case = under(mode, None);
+    case.basis = basis;
+    said(&case, 0x8b, Kind::Vout, &[0x00, 0x18])
 }
 
 #[test]
 fn contexts(rt: HostRuntime) -> Result<(), Fail> {
     let profile = Profile::from_toml(rt.alloc(), PROFILE.as_bytes())?;
     for &(start, lines, address, says) in rows() {
-        let mode = mode_after(&profile, start, lines, address).ok_or("a line")?;
+        let (mode, basis) = mode_after(&profile, start, lines, address).ok_or("a line")?;
         let wanted = match says {
             Value(exact) => value(exact, exact),
+            Assumed(exact) => assumed(exact, exact),
             Raw(why) => raw(why),
         };
-        let text = voltage(mode);
+        let text = voltage(mode, basis);
         same(
             &rt,
             (start, address, "after", lines),

@@ -4,7 +4,7 @@ use crate::compare::same;
 use arrayvec::ArrayVec;
 use pmb_command::Kind;
 use pmb_decimal::Digits;
-use pmb_json_fields::{Access, DATA_MEMBERS, data_members, laws};
+use pmb_json_fields::{Access, Basis, DATA_MEMBERS, data_members, laws};
 use pmb_unknown_start::KnownMode;
 
 #[test]
@@ -16,14 +16,15 @@ fn example(rt: HostRuntime) {
         digits,
         Access::Read,
         KnownMode::Known(0x17),
+        Basis::Assumed,
         None,
         0x8b,
         Kind::Vout,
         &[0xff, 0x01],
     );
-    let members = b",\"value\":\"0.998046875\",\"number\":1";
+    let members = b",\"value\":\"0.998046875\",\"number\":1,\"mode\":\"assumed\"";
     same(&rt, "members", out.as_slice(), &members[..]);
-    laws::keys_are_some_of_five();
+    laws::keys_are_some_of_six();
     laws::keys_are_distinct();
 }
 

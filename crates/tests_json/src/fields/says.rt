@@ -3,19 +3,21 @@
 use arrayvec::ArrayVec;
 use pmb_command::Kind;
 use pmb_decimal::Digits;
-use pmb_json_fields::{Access, data_members};
+use pmb_json_fields::{Access, Basis, data_members};
 use pmb_unknown_start::KnownMode;
 use pmb_value::Direct;
 
 /// The members of an object, as text.
 pub(crate) type Text = ArrayVec<u8, 2048>;
 
-/// What hangs on more than the command: digits, access, the device's VOUT_MODE and coefficients.
+/// What hangs on more than the command: digits, access, the device's VOUT_MODE, what it rests on, and
+/// coefficients.
 #[derive(Clone, Copy, Drop)]
 pub(crate) struct Case {
     pub digits: u8,
     pub access: Access,
     pub mode: KnownMode,
+    pub basis: Basis,
     pub coefficients: Option<Direct>,
 }
 
@@ -25,6 +27,7 @@ pub(crate) fn plain(digits: u8, access: Access) -> Case {
         digits,
         access,
         mode: KnownMode::NoPage,
+        basis: Basis::Told,
         coefficients: None,
     }
 }
@@ -35,6 +38,7 @@ pub(crate) fn under(mode: KnownMode, coefficients: Option<Direct>) -> Case {
         digits: 6,
         access: Access::Read,
         mode,
+        basis: Basis::Told,
         coefficients,
     }
 }
@@ -52,6 +56,7 @@ pub(crate) fn said(case: &Case, code: u8, kind: Kind, bytes: &[u8]) -> Text {
         digits,
         case.access,
         case.mode,
+        case.basis,
         case.coefficients,
         code,
         kind,
@@ -78,6 +83,13 @@ pub(crate) fn joined(texts: &[&str]) -> Text {
 /// The members of a value and the nearest number.
 pub(crate) fn value(exact: &str, nearest: &str) -> Text {
     joined(&[",\"value\":\"", exact, "\",\"number\":", nearest])
+}
+
+/// .. of one whose VOUT_MODE is assumed.
+pub(crate) fn assumed(exact: &str, nearest: &str) -> Text {
+    let mut text = value(exact, nearest);
+    push(&mut text, ",\"mode\":\"assumed\"");
+    text
 }
 
 /// The member of a value that can't be read.

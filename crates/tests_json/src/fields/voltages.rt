@@ -2,8 +2,9 @@
 //! be read. The values are exact fractions, worked out apart from the code.
 
 use crate::compare::same;
-use crate::fields::says::{raw, said, under, value};
+use crate::fields::says::{assumed, raw, said, under, value};
 use pmb_command::Kind;
+use pmb_json_fields::Basis;
 use pmb_unknown_start::KnownMode;
 use pmb_value::Direct;
 use std::test::Fail;
@@ -158,4 +159,29 @@ fn without_a_value(rt: HostRuntime) -> Result<(), Fail> {
         );
     }
     Ok(())
+}
+
+// Only an output voltage with a value has the mark.
+#[test]
+fn marked(rt: HostRuntime) {
+    let mut case = under(KnownMode::Known(0x17), None);
+    case.basis = Basis::Assumed;
+    let text = said(&case, 0x8b, Kind::Vout, &[0x00, 0x18]);
+    let wanted = assumed("12", "12");
+    same(&rt, "a voltage", text.as_slice(), wanted.as_slice());
+    let text = said(&case, 0x22, Kind::VoutSigned, &[0x00, 0xe8]);
+    let wanted = assumed("-12", "-12");
+    same(&rt, "a signed one", text.as_slice(), wanted.as_slice());
+    let text = said(&case, 0x88, Kind::Linear11, &[0x01, 0x00]);
+    let wanted = value("1", "1");
+    same(&rt, "an input voltage", text.as_slice(), wanted.as_slice());
+    case.mode = KnownMode::Known(0x20);
+    let text = said(&case, 0x8b, Kind::Vout, &[0x00, 0x18]);
+    let wanted = raw("vid");
+    same(
+        &rt,
+        "one without a value",
+        text.as_slice(),
+        wanted.as_slice(),
+    );
 }

@@ -1,7 +1,7 @@
 //! The objects of refusals.
 
 use crate::compare::same;
-use crate::object_lines::seen::seen;
+use crate::object_lines::seen::{NAMED, head, seen};
 use arrayvec::ArrayVec;
 use pmb_bus::{Event, Kinds};
 use pmb_json_objects::{OBJECT, refusal_line};
@@ -51,9 +51,47 @@ fn each_is_told(rt: HostRuntime) -> Result<(), Fail> {
         }
         let mut out = ArrayVec::<u8, OBJECT>::new();
         refusal_line(
-            &mut out, &seen, 62, place, &said, *event, *reason, *expected,
+            &mut out,
+            &seen,
+            head(62, place, None),
+            &said,
+            *event,
+            *reason,
+            *expected,
         );
         same(&rt, line, out.as_slice(), line.as_bytes());
     }
+    Ok(())
+}
+
+// S b0 A 03 A: after a time line, of a device that has a name
+#[test]
+fn one_is_told_with_its_time_and_name(rt: HostRuntime) -> Result<(), Fail> {
+    let profile = Profile::from_toml(rt.alloc(), NAMED.as_bytes())?;
+    let late = Late::new(&profile, Start::AllKnown);
+    let seen = seen(&profile, &late);
+    let place = Place {
+        line: 6,
+        column: 30,
+    };
+    let mut said = PartialPacket::new();
+    said.take(Event::Start);
+    said.take(Event::Byte(0xb0));
+    said.take(Event::Ack);
+    said.take(Event::Byte(0x03));
+    said.take(Event::Ack);
+    let mut out = ArrayVec::<u8, OBJECT>::new();
+    refusal_line(
+        &mut out,
+        &seen,
+        head(62, place, Some("12.5")),
+        &said,
+        Some(Event::Nack),
+        Reason::WrongEvent,
+        Kinds::STOP,
+    );
+    let line =
+        b"{\"at\":62,\"line\":6,\"column\":30,\"time\":\"12.5\",\"kind\":\"refusal\",\"reason\":\"WrongEvent\",\"expected\":[\"Stop\"],\"got\":\"Nack\",\"device\":\"58\",\"name\":\"VDD_CORE\",\"code\":\"03\",\"command\":\"CLEAR_FAULTS\",\"sent\":\"03\"}\n";
+    same(&rt, "WrongEvent", out.as_slice(), &line[..]);
     Ok(())
 }

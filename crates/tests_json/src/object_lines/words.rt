@@ -1,15 +1,16 @@
 //! The objects of words that are no token, and which objects are wanted.
 
 use crate::compare::same;
+use crate::object_lines::seen::head;
 use arrayvec::ArrayVec;
-use pmb_json_objects::{OBJECT, bad_token_line, is_wanted};
+use pmb_json_objects::{Head, OBJECT, bad_token_line, is_wanted};
 use pmb_places::Place;
 
 #[test]
 fn a_word_is_told_up_to_32_bytes(rt: HostRuntime) {
     let place = Place { line: 2, column: 7 };
     let mut out = ArrayVec::<u8, OBJECT>::new();
-    bad_token_line(&mut out, 5, place, b"b\"\\\x00\xff~");
+    bad_token_line(&mut out, head(5, place, None), b"b\"\\\x00\xff~");
     same(
         &rt,
         "a short word",
@@ -17,21 +18,30 @@ fn a_word_is_told_up_to_32_bytes(rt: HostRuntime) {
         &b"{\"at\":5,\"line\":2,\"column\":7,\"kind\":\"bad_token\",\"word\":\"b\\u0022\\u005c\\u0000\\u00ff~\"}\n"[..],
     );
     out.clear();
-    bad_token_line(&mut out, 0, place, b"0123456789abcdef0123456789ABCDEFg");
+    bad_token_line(
+        &mut out,
+        head(0, place, Some("2024-05-01T12:30:00Z")),
+        b"0123456789abcdef0123456789ABCDEFg",
+    );
     same(
         &rt,
         "a long word",
         out.as_slice(),
-        &b"{\"at\":0,\"line\":2,\"column\":7,\"kind\":\"bad_token\",\"word\":\"0123456789abcdef0123456789ABCDEF\"}\n"[..],
+        &b"{\"at\":0,\"line\":2,\"column\":7,\"time\":\"2024-05-01T12:30:00Z\",\"kind\":\"bad_token\",\"word\":\"0123456789abcdef0123456789ABCDEF\"}\n"[..],
     );
 }
 
 #[test]
 fn the_program_of_the_doc(rt: HostRuntime) {
-    let place = Place { line: 2, column: 7 };
+    let head = Head {
+        at: 5,
+        place: Place { line: 2, column: 7 },
+        time: Some(b"0.25"),
+    };
     let mut out = ArrayVec::<u8, OBJECT>::new();
-    bad_token_line(&mut out, 5, place, b"b\"");
-    let line = b"{\"at\":5,\"line\":2,\"column\":7,\"kind\":\"bad_token\",\"word\":\"b\\u0022\"}\n";
+    bad_token_line(&mut out, head, b"b\"");
+    let line =
+        b"{\"at\":5,\"line\":2,\"column\":7,\"time\":\"0.25\",\"kind\":\"bad_token\",\"word\":\"b\\u0022\"}\n";
     same(&rt, "an error", out.as_slice(), &line[..]);
 }
 

@@ -164,5 +164,6 @@ fn begins_late(rt: HostRuntime) -> Result<(), Fail> {
     late.observe(&set_mode);
     ensure(&rt, "VOUT_MODE heard", late.mode(0x59) == Known(0x14));
     ensure(&rt, "PAGE not heard", late.page(0x59).is_none());
+    ensure(&rt, "nothing assumed", !late.is_assumed(0x59));
     Ok(())
 }

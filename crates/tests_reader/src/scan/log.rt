@@ -34,8 +34,14 @@ impl Visitor for Log {
         let _ = self.bytes.try_extend_from_slice(bytes);
     }
 
-    fn visit_event(&mut self, event: Event) {
+    fn visit_event<W: Sink>(
+        &mut self,
+        event: Event,
+        _waiting: &mut Waiting,
+        _writer: &mut W,
+    ) -> Result<(), RunFault> {
         self.append(event_text(event).as_bytes());
+        Ok(())
     }
 
     fn visit_packet<W: Sink>(

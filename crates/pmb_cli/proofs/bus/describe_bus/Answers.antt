@@ -13,7 +13,7 @@ returns-in-Ok g c =
     (inr (record {
       through = record {
         read = [];
-        text = bus_text c.args.profile.now;
+        text = bus_text c.args.bus.now.ignored c.args.bus.now.devices;
         consumed = consumes_nothing _;
         given = sym (raised_by_none _);
         appended = c.in-Ok.ensures.written;

@@ -5,7 +5,7 @@ use Rattle.pmb_io.specs.declared.fault.ToolFault.{ToolFault}
 use Rattle.pmb_io.specs.declared.fault.ToolFault.TheVariants.{Read}
 use Rattle.pmb_args.specs.ExitStatus.{EndedWell}
 use Rattle.pmb_args.specs.declared.exit_status.ExitStatus.TheVariants.{IoFailed}
-use Rattle.pmb_table.specs.Profile.{Says}
+use Rattle.pmb_table.specs.Profile.{SaysBus}
 use Rattle.pmb_run.specs.Lines.{OrNoMemory}
 use Rattle.pmb_args.specs.Asked.{Run, wanted_of}
 use Rattle.pmb_cli.specs.Works.{DoneUnderFront, working}
@@ -21,26 +21,26 @@ use Rattle.pmb_cli.proofs.works.run_under_front.Goals as goal
 -- The work is done on what follows the line `%%`. Nothing failed before it, so what failed did so after the profile.
 pub returns-in-Ok-from_toml : goal.returns-in-Ok-from_toml
 returns-in-Ok-from_toml g c =
-    let devices = c.in-Ok-from_toml.profile in
-    let says : Says c.profile.result.now (Ok devices) = elim c.in-Ok-from_toml.ensures.says [
+    let bus = c.in-Ok-from_toml.bus in
+    let says : SaysBus c.profile.result.now (Ok bus) = elim c.in-Ok-from_toml.ensures.says [
       | inl memory ↦ absurd (cc)
       | inr says ↦ says
     ] in
-    let of_front = subst (λ (text : List ℕ). Says text (Ok devices)) c.profile.ensures says in
+    let of_front = subst (λ (text : List ℕ). SaysBus text (Ok bus)) c.profile.ensures says in
     let marked = sym c.has_capture.ensures ∙ c.if-has_capture.true in
     let worked = subst (λ (rest : List ℕ). OrNoMemory
     ((wanted_of c.args.work.now ≡ Run) × (c.do_work.new.reader ≡ c.front.new.reader)
     × (c.do_work.new.out ≡ c.args.out.now))
-    (AsTool (Ran g.R.Source.told g.W.Sink.told (working (wanted_of c.args.work.now) devices) rest
+    (AsTool (Ran g.R.Source.told g.W.Sink.told (working (wanted_of c.args.work.now) bus) rest
     (c.front.new.reader, c.args.out.now) (c.do_work.new.reader, c.do_work.new.out))) c.do_work.result) c.rest.ensures
     c.do_work.ensures in
     record {
       did = does_as _ _ _ _ _ _ _
           (λ tally done. done_after_mark g.R.Source.told c.one_front.ensures.stays g.W.Sink.told
-          (working (wanted_of c.args.work.now)) devices c.args.reader.now c.front.new.reader c.args.out.now
+          (working (wanted_of c.args.work.now)) bus c.args.reader.now c.front.new.reader c.args.out.now
           c.do_work.new.out c.in-Ok.front c.in-Ok.ensures.ok c.do_work.new.reader tally marked of_front done)
           (λ part. part_after_mark g.R.Source.told c.one_front.ensures.stays g.W.Sink.told
-          (working (wanted_of c.args.work.now)) devices c.args.reader.now c.front.new.reader c.args.out.now
+          (working (wanted_of c.args.work.now)) bus c.args.reader.now c.front.new.reader c.args.out.now
           c.do_work.new.out c.in-Ok.front c.in-Ok.ensures.ok c.do_work.new.reader marked of_front part)
           (worked_did g.R.Source.told g.W.Sink.told _ _ _ _ _ _ _ c.do_work.result _ c.ended.ensures.status worked);
       tells = worked_tells g.R.Source.told g.W.Sink.told _ _ _ _ _ _ _ c.args.reader.now (record {
@@ -65,19 +65,19 @@ returns-in-Ok-from_toml g c =
 -- All was profile, and nothing follows.
 pub returns-in-Ok-2 : goal.returns-in-Ok-2
 returns-in-Ok-2 g c =
-    let devices = c.in-Ok-from_toml.profile in
-    let says : Says c.profile.result.now (Ok devices) = elim c.in-Ok-from_toml.ensures.says [
+    let bus = c.in-Ok-from_toml.bus in
+    let says : SaysBus c.profile.result.now (Ok bus) = elim c.in-Ok-from_toml.ensures.says [
       | inl memory ↦ absurd (cc)
       | inr says ↦ says
     ] in
     record {
-      did = nothing_worked_did g.R.Source.told g.W.Sink.told _ (working (wanted_of c.args.work.now) devices) _ _ _ _
+      did = nothing_worked_did g.R.Source.told g.W.Sink.told _ (working (wanted_of c.args.work.now) bus) _ _ _ _
           (λ tally. DoneUnderFront g.R.Source.told g.W.Sink.told (working (wanted_of c.args.work.now)) tally
           (c.args.reader.now, c.args.out.now) (c.front.new.reader, c.do_work-in-Ok-2.new.out)) _
           (λ tally done. done_without_mark g.R.Source.told c.one_front.ensures.stays g.W.Sink.told
-          (working (wanted_of c.args.work.now)) devices c.args.reader.now c.front.new.reader _ _ c.in-Ok.front
+          (working (wanted_of c.args.work.now)) bus c.args.reader.now c.front.new.reader _ _ c.in-Ok.front
           c.in-Ok.ensures.ok nothing_told _ _ tally (sym c.has_capture.ensures ∙ c.if-has_capture.false)
-          (subst (λ (text : List ℕ). Says text (Ok devices)) c.profile.ensures says) refl done)
+          (subst (λ (text : List ℕ). SaysBus text (Ok bus)) c.profile.ensures says) refl done)
           c.do_work-in-Ok-2.result _ c.ended-in-Ok-2.ensures.status c.do_work-in-Ok-2.ensures;
       tells = nothing_worked_tells g.R.Source.told g.W.Sink.told _ _ _ _ _ _ c.args.reader.now c.front.new.reader
           (c.in-Ok.ensures.no_read (λ is. cc)) c.in-Ok.ensures.reads c.do_work-in-Ok-2.result _
@@ -109,7 +109,7 @@ returns g c =
             | inl memory ↦
                 let what : fault.what ≡ OutOfMemory = cc in
                 absurd (no_memory_is_not_bad _ (c.report_fault.ensures.memory what) bad)
-            | inr says ↦ subst (λ text. Says text (Err fault)) c.profile.ensures says
+            | inr says ↦ subst (λ text. SaysBus text (Err fault)) c.profile.ensures says
           ];
         }),
       );

@@ -8,12 +8,8 @@ use Rattle.pmb_cli.proofs.works.run_under_sample.Goals as goal
 -- What was done was so under the sample profile.
 pub returns-in-Ok : goal.returns-in-Ok
 returns-in-Ok g c = record {
-  did = does_as _ _ _ _ _ _ _ (λ tally done. record {
-    profile = c.in-Ok.profile;
-    says = c.in-Ok.ensures.ok;
-    holds =
-        done;
-  }) (λ part. record { profile = c.in-Ok.profile; says = c.in-Ok.ensures.ok; holds = part })
+  did = does_as _ _ _ _ _ _ _ (λ tally done. record { bus = c.in-Ok.bus; says = c.in-Ok.ensures.ok; holds = done })
+      (λ part. record { bus = c.in-Ok.bus; says = c.in-Ok.ensures.ok; holds = part })
       (worked_did g.R.Source.told g.W.Sink.told _ _ _ _ _ _ _ c.do_work.result _ c.ended.ensures.status
       c.do_work.ensures);
   tells = worked_tells g.R.Source.told g.W.Sink.told _ _ _ _ _ _ _ c.args.reader.now

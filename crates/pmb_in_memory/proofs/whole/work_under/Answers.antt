@@ -1,23 +1,33 @@
-use Rattle.std.proofs.Common.{subst, sym}
+use Rattle.std.proofs.Common.{◌≡◌, ◌∙◌, ap, sym}
 use Rattle.pmb_build.specs.Lines.{building}
+use Rattle.pmb_capture.specs.Check.{checking}
+use Rattle.pmb_capture.specs.Show.{showing}
 use Rattle.pmb_run.specs.Lines.{running}
 use Rattle.pmb_in_memory.specs.declared.memory_task.MemoryTask.{MemoryTask}
-use Rattle.pmb_in_memory.specs.Fault.{whole_of}
-use Rattle.pmb_in_memory.specs.Whole.{WorksUnder}
 use Rattle.pmb_in_memory.specs.MemoryTask.{working}
-use Rattle.pmb_in_memory.proofs.Works.{works, works_or_memory}
+use Rattle.pmb_in_memory.proofs.Works.{works_as, works_or_memory_as}
 use Rattle.pmb_in_memory.proofs.whole.work_under.Goals as goal
 
+pub returns-in-Show : goal.returns-in-Show
+returns-in-Show g c = works_as g.W.Sink.told (showing c.profile-profile.result.now) c.args.input.now _ _ c.args.out.now
+    c.show.new.writer (working c.args.work c.args.bus.now)
+    (ap showing c.profile-profile.ensures.profile ∙ ap (λ (w : MemoryTask). working w c.args.bus.now) (sym c.in-Show.is))
+    c.show.result c.show.ensures
+
+pub returns-in-Check : goal.returns-in-Check
+returns-in-Check g c = works_as g.W.Sink.told (checking c.profile-profile.result.now) c.args.input.now _ _ c.args.out.now
+    c.check_capture.new.writer (working c.args.work c.args.bus.now)
+    (ap checking c.profile-profile.ensures.profile ∙ ap (λ (w : MemoryTask). working w c.args.bus.now) (sym c.in-Check.is))
+    c.check_capture.result c.check_capture.ensures
+
 pub returns-in-Build : goal.returns-in-Build
-returns-in-Build g c =
-    subst (λ (work : MemoryTask). WorksUnder g.W.Sink.told (working work c.args.profile.now) c.args.input.now
-    c.args.out.now c.build.new.writer (whole_of c.build.result)) (sym c.in-Build.is)
-    (works g.W.Sink.told (building c.args.profile.now) c.args.input.now _ _ c.args.out.now c.build.new.writer
-    c.build.result c.build.ensures)
+returns-in-Build g c = works_as g.W.Sink.told (building c.profile-profile.result.now) c.args.input.now _ _ c.args.out.now
+    c.build.new.writer (working c.args.work c.args.bus.now)
+    (ap building c.profile-profile.ensures.profile ∙ ap (λ (w : MemoryTask). working w c.args.bus.now) (sym c.in-Build.is))
+    c.build.result c.build.ensures
 
 pub returns-in-Run : goal.returns-in-Run
-returns-in-Run g c =
-    subst (λ (work : MemoryTask). WorksUnder g.W.Sink.told (working work c.args.profile.now) c.args.input.now
-    c.args.out.now c.run.new.writer (whole_of c.run.result)) (sym c.in-Run.is)
-    (works_or_memory g.W.Sink.told (running c.args.profile.now) c.args.input.now _ _ c.args.out.now c.run.new.writer
-    c.run.result c.run.ensures)
+returns-in-Run g c = works_or_memory_as g.W.Sink.told (running c.profile-profile.result.now) c.args.input.now _ _
+    c.args.out.now c.run.new.writer (working c.args.work c.args.bus.now)
+    (ap running c.profile-profile.ensures.profile ∙ ap (λ (w : MemoryTask). working w c.args.bus.now) (sym c.in-Run.is))
+    c.run.result c.run.ensures

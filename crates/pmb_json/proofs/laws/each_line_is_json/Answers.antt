@@ -9,10 +9,12 @@ returns c =
       packet = c.all_objects_are_json.ensures.packet;
       refusal = c.objects_are_json.ensures.refusal;
       bad_token = c.objects_are_json.ensures.bad_token;
+      other = c.objects_are_json.ensures.other;
       last = c.all_objects_are_json.ensures.last;
       behind = c.places_are_in_range.ensures.behind;
       words = c.places_are_in_range.ensures.words;
       end = c.places_are_in_range.ensures.end;
+      times = c.times_are_short.ensures.at;
     } in
     let spells : SpellsJson = record { json = c.spelling_is_json.ensures; line = c.spelling_fits_in_line.ensures } in
     record {

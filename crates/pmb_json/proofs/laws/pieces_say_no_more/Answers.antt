@@ -1,13 +1,15 @@
-use Rattle.std.proofs.Common.{List, [], ◌++◌, ◌∙◌}
+use Rattle.std.proofs.Common.{inr, List, [], ◌++◌, ◌∙◌}
 use Rattle.pmb_unknown_start.specs.declared.start.Start.TheVariants.{AllKnown}
 use Rattle.pmb_note.specs.Paging.{mode as mode_of_whole}
 use Rattle.pmb_transaction.specs.Transaction.{TransactionData}
+use Rattle.pmb_json.specs.Pieces.{SameTimes}
 use Rattle.pmb_json.proofs.Pieces.{spans_said}
 use Rattle.pmb_json.proofs.laws.pieces_say_no_more.Goals as goal
 
 pub returns : goal.returns
-returns c profile digits start devices place there before n spans bus late so =
-    spans_said digits profile devices devices start AllKnown place there n spans [] before
+returns c profile digits start devices ignored place there times theirs before n spans bus late told so =
+    spans_said SameTimes digits profile devices ignored start AllKnown place there times theirs n spans [] before
+    (λ at. inr (told at))
     (λ (ts : List TransactionData). record {
       pages = λ addr number is. c.all_that_is_known_is_the_context.ensures.page profile (before ++ ts) addr
           ∙ c.pieces_say_what_the_whole_says.ensures.page profile start before ts addr number late is;

@@ -5,16 +5,17 @@ use Rattle.pmb_command.specs.declared.entry.Kind.{Kind}
 use Rattle.pmb_command.specs.declared.entry.Kind.TheVariants.{Raw}
 use Rattle.pmb_unknown_start.specs.declared.mode.KnownMode.{KnownMode}
 use Rattle.pmb_json_fields.specs.declared.access.Access.{Access}
+use Rattle.pmb_json_fields.specs.declared.basis.Basis.{Basis}
 use Rattle.pmb_json_fields.specs.Value.{data_members}
 use Rattle.pmb_json_fields.proofs.Pieces.{called, nothing}
 use Rattle.pmb_json_fields.proofs.data.append_data.Goals as goal
 
-raw_says_nothing : (digits : ℕ) (access : Access) (mode : KnownMode) (coefficients : Option Coefficients) (code : ℕ)
-    (kind : Kind) (bytes : List ℕ)
-    → kind ≡ Raw → [] ≡ data_members digits access mode coefficients code kind bytes
-raw_says_nothing digits access mode coefficients code kind bytes is =
-    sym (ap (λ (k : Kind). data_members digits access mode coefficients code k bytes) is)
+raw_says_nothing : (digits : ℕ) (access : Access) (mode : KnownMode) (basis : Basis)
+    (coefficients : Option Coefficients) (code : ℕ) (kind : Kind) (bytes : List ℕ)
+    → kind ≡ Raw → [] ≡ data_members digits access mode basis coefficients code kind bytes
+raw_says_nothing digits access mode basis coefficients code kind bytes is =
+    sym (ap (λ (k : Kind). data_members digits access mode basis coefficients code k bytes) is)
 
 pub returns-in-Raw : goal.returns-in-Raw
-returns-in-Raw g c = called (raw_says_nothing c.args.digits c.args.access c.args.mode c.args.coefficients c.args.code
-    c.args.kind c.args.bytes.now c.in-Raw.is) (nothing 1702 c.args.out.now.items)
+returns-in-Raw g c = called (raw_says_nothing c.args.digits c.args.access c.args.mode c.args.basis
+    c.args.coefficients c.args.code c.args.kind c.args.bytes.now c.in-Raw.is) (nothing 1702 c.args.out.now.items)

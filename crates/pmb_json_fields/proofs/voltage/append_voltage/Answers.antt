@@ -8,11 +8,11 @@ use Rattle.pmb_json_fields.proofs.voltage.append_voltage.Goals as goal
 pub returns-then-bytes-lt2 : goal.returns-then-bytes-lt2
 returns-then-bytes-lt2 g c =
     let few : ltb (length c.args.bytes.now) 2 ≡ true = search rules in
-    called (too_short (vout_members c.args.digits c.args.mode (is_signed c.args.sign) c.args.coefficients)
-    c.args.bytes.now few) (nothing 345 c.args.out.now.items)
+    called (too_short (vout_members c.args.digits c.args.mode c.args.basis (is_signed c.args.sign) c.args.coefficients)
+    c.args.bytes.now few) (nothing 410 c.args.out.now.items)
 
 pub returns-else-bytes-lt3 : goal.returns-else-bytes-lt3
 returns-else-bytes-lt3 g c =
     let many : ltb (length c.args.bytes.now) 3 ≡ false = search rules in
-    called (too_long (vout_members c.args.digits c.args.mode (is_signed c.args.sign) c.args.coefficients)
-    c.args.bytes.now many) (nothing 345 c.args.out.now.items)
+    called (too_long (vout_members c.args.digits c.args.mode c.args.basis (is_signed c.args.sign) c.args.coefficients)
+    c.args.bytes.now many) (nothing 410 c.args.out.now.items)

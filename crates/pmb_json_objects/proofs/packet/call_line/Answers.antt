@@ -1,11 +1,12 @@
--- The head, the command, and what was sent and replied.
-use Rattle.pmb_json_objects.proofs.Lists.{ended, joined, joined_to_begun}
+-- The head, the device, the command, and what was sent and replied.
+use Rattle.pmb_json_objects.proofs.Lists.{ended, joined, joined_to_begun, of_seen_device}
 use Rattle.pmb_json_objects.proofs.packet.call_line.Goals as goal
 
 pub returns-clause-line : goal.returns-clause-line
 returns-clause-line g c = λ known sees.
     let old = c.args.out.now.items in
-    let to = joined_to_begun old _ _ _ c.begin_object.ensures.begun c.append_byte.ensures.member in
+    let device = of_seen_device _ c.args.addr sees.profile c.append_device.ensures.members in
+    let to = joined_to_begun old _ _ _ c.begin_object.ensures.begun device in
     let command = joined_to_begun old _ _ _ to (c.append_command.ensures.members known sees) in
     let both = joined c.hex_member.new.out.items _ _ c.hex_member-2.ensures.member c.bool_member.ensures.member in
     let data_and_pec = joined c.append_command.new.out.items _ _ c.hex_member.ensures.member both in

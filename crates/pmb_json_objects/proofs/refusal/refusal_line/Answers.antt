@@ -3,7 +3,8 @@ use Rattle.std.proofs.Common.{[], ◌∷◌, ◌++◌, codes, ap, ◌∙◌}
 use Rattle.pmb_json_text.specs.declared.item_order.ItemOrder.TheVariants.{Later}
 use Rattle.pmb_json_text.specs.Json.{string}
 use Rattle.pmb_json_text.specs.Member.{members_text, named}
-use Rattle.pmb_json_objects.specs.Refusals.{right_pec_members, said_device_member}
+use Rattle.pmb_partial_packet.specs.PartialPacket.{said_device}
+use Rattle.pmb_json_objects.specs.Refusals.{right_pec_members, said_device_members}
 use Rattle.pmb_json_objects.proofs.Lists.{ended, joined, joined_to_begun}
 use Rattle.pmb_json_objects.proofs.refusal.refusal_line.Goals as goal
 
@@ -13,8 +14,10 @@ returns-clause-line g c = λ known profile front sees viable stands.
     ∙ ap (λ t. c.begin_object.new.out.items ++ members_text Later (named (codes "reason") (string t) ∷ []))
     c.name.ensures.name in
     let device = c.append_said_device.ensures.members
-    ∙ ap (λ d. c.append_got.new.out.items ++ members_text Later (said_device_member d))
-    (c.device.ensures front stands) in
+    ∙ ap (λ d. c.append_got.new.out.items ++ members_text Later (said_device_members c.args.seen.now.profile.now d))
+    (c.device.ensures front stands)
+    ∙ ap (λ profile. c.append_got.new.out.items ++ members_text Later
+    (said_device_members profile (said_device front))) sees.profile in
     let right = c.append_right_pec.ensures.members
     ∙ ap (λ r. c.append_reply.new.out.items ++ members_text Later (right_pec_members r))
     (c.right_pec.ensures front stands) in

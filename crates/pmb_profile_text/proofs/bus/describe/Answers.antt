@@ -1,4 +1,4 @@
-use Rattle.std.proofs.Common.{ℕ, List, [], ◌++◌, subst, append-nil}
+use Rattle.std.proofs.Common.{ℕ, List, [], subst, append-nil}
 use Rattle.pmb_io.specs.Outgoing.{PutsText}
 use Rattle.pmb_profile_text.specs.Table.{bus_text}
 use Rattle.pmb_profile_text.proofs.Texts.{on_ok_both, puts_as}
@@ -7,7 +7,7 @@ use Rattle.pmb_profile_text.proofs.bus.describe.Goals as goal
 -- nothing waits before, and nothing after
 pub returns-clause-written : goal.returns-clause-written
 returns-clause-written g c =
-    let text = bus_text c.args.profile.now in
+    let text = bus_text c.args.profile.now.ignored c.args.profile.now.devices in
     let held = (g.W.Sink.told c.args.writer.now).held in
     let put = subst (λ (waiting : List ℕ). PutsText held waiting (g.W.Sink.told c.put_bus.new.writer).held
     c.put_bus.new.waiting.items text) c.new-waiting.ensures c.in_ok-put_bus.ensures.puts in

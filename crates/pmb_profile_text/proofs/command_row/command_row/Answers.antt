@@ -1,62 +1,14 @@
-use Rattle.std.proofs.Common.{◌≡◌, ◌∙◌, ◌++◌, ℕ, List, [], ap, codes, sym}
-use Rattle.pmb_command.specs.Entry.{EntryParts, entry_parts}
+use Rattle.std.proofs.Common.{◌∙◌, ◌++◌, ℕ, List, ap, codes}
+use Rattle.pmb_command.specs.Entry.{EntryParts}
 use Rattle.pmb_command.specs.Fitting.{register_form}
-use Rattle.pmb_command.specs.Parts.{CommandParts, DeviceParts}
-use Rattle.pmb_profile_text.specs.Table.{cell, command_row, first_word}
-use Rattle.pmb_profile_text.specs.Words.{digits, form_word, kind_word, paged_word}
+use Rattle.pmb_profile_text.specs.Table.{first_word}
 use Rattle.pmb_profile_text.proofs.Texts.{then}
 use Rattle.pmb_profile_text.proofs.command_row.command_row.Goals as goal
 
--- the row of a command, by its entry
-row_of : (device : DeviceParts) (command : CommandParts) (e : EntryParts) → command.entry ≡ e
-    → cell 5 (digits e.code) ++ (cell 33 e.name
-    ++ (cell 6 (form_word e.shape.write) ++ (cell 6 (form_word e.shape.read) ++ (cell 6 (form_word e.shape.call)
-    ++ (cell 6 (paged_word e.paged) ++ (cell 26 (kind_word e.kind)
-    ++ (first_word device command (register_form command.entry.shape) ++ codes "\n")))))))
-    ≡ command_row device command
-row_of device command e same = ap (λ (x : EntryParts). cell 5 (digits x.code)
-    ++ (cell 33 x.name ++ (cell 6 (form_word x.shape.write)
-    ++ (cell 6 (form_word x.shape.read) ++ (cell 6 (form_word x.shape.call)
-    ++ (cell 6 (paged_word x.paged) ++ (cell 26 (kind_word x.kind)
-    ++ (first_word device command (register_form command.entry.shape) ++ codes "\n")))))))) (sym same)
-
 pub returns : goal.returns
 returns c = λ command is same.
-    let entry = c.args.entry.now in
-    let t0 = c.append_cell.new.row.items in
-    let t1 = c.append_cell-2.new.row.items in
-    let t2 = c.append_cell-3.new.row.items in
-    let t3 = c.append_cell-4.new.row.items in
-    let t4 = c.append_cell-5.new.row.items in
-    let t5 = c.append_cell-6.new.row.items in
-    let t6 = c.append_cell-7.new.row.items in
-    let t7 = c.append_first.new.row.items in
-    let t8 = c.append.new.row.items in
-    let e0 : t0 ≡ cell 5 (digits entry.code) = c.append_cell.ensures.text
-    ∙ (ap (λ (t : List ℕ). t ++ cell 5 c.digits_of.result) c.new-row.ensures ∙ ap (cell 5) c.digits_of.ensures) in
-    let name = c.as_bytes.ensures.value ∙ c.as_str.ensures.value in
-    let e1 : t1 ≡ t0 ++ cell 33 entry.name.bytes = c.append_cell-2.ensures.text
-    ∙ ap (λ (w : List ℕ). t0 ++ cell 33 w) name in
-    let e2 : t2 ≡ t1 ++ cell 6 (form_word entry.shape.write) = c.append_cell-3.ensures.text
-    ∙ ap (λ (w : List ℕ). t1 ++ cell 6 w) c.form_word.ensures.word in
-    let e3 : t3 ≡ t2 ++ cell 6 (form_word entry.shape.read) = c.append_cell-4.ensures.text
-    ∙ ap (λ (w : List ℕ). t2 ++ cell 6 w) c.form_word-2.ensures.word in
-    let e4 : t4 ≡ t3 ++ cell 6 (form_word entry.shape.call) = c.append_cell-5.ensures.text
-    ∙ ap (λ (w : List ℕ). t3 ++ cell 6 w) c.form_word-3.ensures.word in
-    let e5 : t5 ≡ t4 ++ cell 6 (paged_word entry.paged) = c.append_cell-6.ensures.text
-    ∙ ap (λ (w : List ℕ). t4 ++ cell 6 w) c.paged_word.ensures.word in
-    let kind = c.as_slice.ensures.value ∙ c.kind_word.ensures.word in
-    let e6 : t6 ≡ t5 ++ cell 26 (kind_word entry.kind) = c.append_cell-7.ensures.text
-    ∙ ap (λ (w : List ℕ). t5 ++ cell 26 w) kind in
-    let e7 : t7 ≡ t6 ++ first_word c.args.device.now command (register_form command.entry.shape) =
-    c.append_first.ensures.text command is (ap (λ (e : EntryParts). e.shape) same) in
-    let e8 : t8 ≡ t7 ++ codes "\n" = c.append.ensures in
-    then [] t0 t8 _ _ e0
-    (then t0 t1 t8 _ _ e1
-    (then t1 t2 t8 _ _ e2
-    (then t2 t3 t8 _ _ e3
-    (then t3 t4 t8 _ _ e4
-    (then t4 t5 t8 _ _ e5
-    (then t5 t6 t8 _ _ e6
-    (then t6 t7 t8 _ _ e7 e8)))))))
-    ∙ row_of c.args.device.now command (entry_parts entry) same
+    let cells = c.command_cells-row.result.items in
+    let word = first_word c.args.device.now 0 command (register_form command.entry.shape) in
+    let first = c.append_first.ensures.text command is (ap (λ (e : EntryParts). e.shape) same) in
+    then cells _ _ word (codes "\n") first c.append.ensures
+    ∙ ap (λ (t : List ℕ). t ++ (word ++ codes "\n")) (c.command_cells-row.ensures.text command same)

@@ -14,4 +14,4 @@ returns-in-Some-clause-text c = λ command is same.
     c.append_bytes.ensures.text
     ∙ ap (λ (bytes : List ℕ). row ++ bytes_word bytes)
     (c.as_slice.ensures.value ∙ c.first_bytes.ensures.command command is)
-    ∙ ap (λ (form : Option Form). row ++ first_word device command form) (sym formed)
+    ∙ ap (λ (form : Option Form). row ++ first_word device c.args.page command form) (sym formed)

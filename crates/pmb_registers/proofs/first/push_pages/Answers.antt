@@ -1,10 +1,21 @@
-use Rattle.std.proofs.Common.{map}
+use Rattle.std.proofs.Common.{◌≡◌, ◌∙◌, ◌++◌, ℕ, Some, map, ap, arith}
+use Rattle.std.specs.List.{range_with_len}
 use Rattle.pmb_registers.specs.machine.Registers.{register_data}
-use Rattle.pmb_registers.proofs.Beginning.{one_register, pushed_page}
+use Rattle.pmb_registers.proofs.Beginning.{beginning, one_register, pushed_page}
 use Rattle.pmb_registers.proofs.first.push_pages.Goals as goal
 
 pub loop-page-preserved : goal.loop-page-preserved
-loop-page-preserved c =
-    pushed_page (one_register c.args.code c.args.bytes.now) (map register_data c.args.registers.now.items)
-    c.loop-page.registers.items c.push.new.self.items c.register_of.result c.loop-page.page
-    c.loop-page.invariant c.in_ok-push.ensures.items c.register_of.ensures
+loop-page-preserved c = λ command is.
+    pushed_page (one_register c.args.code (beginning c.args.device.now command c.args.form))
+    (map register_data c.args.registers.now.items) (map register_data c.loop-page.registers.items)
+    (map register_data c.push_register.new.registers.items) c.loop-page.page
+    (c.loop-page.invariant command is) (c.in_ok-push_register.ensures command is)
+
+pub returns : goal.returns
+returns c = λ command is.
+    let all : c.loop-page.page ≡ c.args.device.now.pages =
+    omega (arith, c.loop-page-test.false, c.loop-page.auto.page-end, c.pages-page-end.ensures) in
+    let register = one_register c.args.code (beginning c.args.device.now command c.args.form) in
+    c.loop-page.invariant command is
+    ∙ ap (λ (pages : ℕ). map register_data c.args.registers.now.items
+    ++ map register (map Some (range_with_len 0 pages))) all

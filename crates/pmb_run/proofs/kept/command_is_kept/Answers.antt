@@ -6,7 +6,7 @@ pub returns-in-Some : goal.returns-in-Some
 returns-in-Some c =
     command_kept c.args.device.now.commands c.args.index c.accepted_device.ensures.own_codes
     (entry_parts c.in-Some.entry.now) c.kind_makes_format.ensures
-    c.initial_is_small.ensures c.in-Some.ensures.entry
+    c.initials_are_small.ensures c.in-Some.ensures.entry
 
 pub returns-in-None : goal.returns-in-None
 returns-in-None c = none_kept c.args.device.now.commands c.args.index c.in-None.ensures.entry

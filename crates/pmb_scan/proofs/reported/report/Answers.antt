@@ -15,5 +15,6 @@ returns-in-Refused c reached read =
 
 pub returns-in_default : goal.returns-in_default
 returns-in_default c reached read =
-    reports_used c.passing_goes_on.ensures.other reached c.args.event c.take-took.result c.take-took.new.self read.reads
+    reports_used c.packets_under_way.ensures c.passing_goes_on.ensures.other reached c.args.event c.take-took.result
+    c.take-took.new.self read.reads
     c.in_default.not-Refused (c.take-took.ensures reached.profile reached.standing read.stands)

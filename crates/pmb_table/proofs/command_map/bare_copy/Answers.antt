@@ -1,25 +1,14 @@
-use Rattle.std.proofs.Common.{◌≡◌, ℕ, ◌∙◌, ◌++◌, ap, map, sym}
+use Rattle.std.proofs.Common.{ℕ, ◌∙◌, ◌++◌, ap, map, sym}
 use Rattle.pmb_keys.specs.declared.command.Command.{Command}
 use Rattle.pmb_table.specs.machine.CommandMap.{bare_entry}
 use Rattle.pmb_table.proofs.CommandMaps.{copy_next}
 use Rattle.pmb_table.proofs.command_map.bare_copy.Goals as goal
-use Rattle.pmb_table.proofs.command_map.bare_copy.Goals.{In_ok-insert}
 
 -- one more entry is copied
-copied : (c : In_ok-insert) → c.insert.new.self.entries ++ map bare_entry c.next.new.self
-    ≡ map bare_entry c.args.commands.now.entries
-copied c =
+pub loop-code-preserved : goal.loop-code-preserved
+loop-code-preserved c =
     let entry : ℕ × Command = (c.in-Some.code.now, c.in-Some.command.now) in
     let left = c.next.new.self in
-    ap (λ es. es ++ map bare_entry left) c.in_ok-insert.ensures.entries
+    ap (λ es. es ++ map bare_entry left) c.in_ok-insert_bare.ensures
     ∙ copy_next c.args.commands.now.entries c.loop-code.copy.entries left entry c.len.ensures.unique
     (ap (λ es. c.loop-code.copy.entries ++ map bare_entry es) (sym c.in-Some.ensures.steps) ∙ c.loop-code.invariant)
-
-pub loop-code-preserved-in_ok-insert : goal.loop-code-preserved-in_ok-insert
-loop-code-preserved-in_ok-insert c = copied (goal.at.loop-code-preserved-in_ok-insert c).In_ok-insert
-
-pub loop-code-preserved-in_ok-insert-2 : goal.loop-code-preserved-in_ok-insert-2
-loop-code-preserved-in_ok-insert-2 c = copied (goal.at.loop-code-preserved-in_ok-insert-2 c).In_ok-insert
-
-pub loop-code-preserved : goal.loop-code-preserved
-loop-code-preserved c = copied (goal.at.loop-code-preserved c).In_ok-insert

@@ -19,10 +19,11 @@ pub returns-in-Err-clause-read : goal.returns-in-Err-clause-read
 returns-in-Err-clause-read c =
     let vs = c.args.values.now in
     let i = c.loop-value.value-index in
-    let rest = commands_after c.args.device c.loop-value.taken.items c.loop-value.commands in
+    let rest = commands_after c.args.device c.args.pages c.loop-value.taken.items c.loop-value.commands in
     ⊎_elim
     (λ memory. inl cc)
-    (λ fault. inr (fault_of_one c.args.device c.loop-value.taken.items c.loop-value.commands (view c.value-item.result)
+    (λ fault. inr (fault_of_one c.args.device c.args.pages c.loop-value.taken.items c.loop-value.commands
+    (view c.value-item.result)
     (items_view (drop (i + 1) vs)) c.in-Err.fault fault
     ∙ ap rest (sym (item_at vs i c.value-item.result c.loop-value-test.true c.value-item.is))
     ∙ c.loop-value.invariant.read))

@@ -1,8 +1,8 @@
 use Rattle.std.proofs.Common.{lit<}
 use Rattle.pmb_command.specs.Parts.{IsNew}
 use Rattle.pmb_keys.specs.CommandView.{command_parts}
-use Rattle.pmb_table.specs.machine.CommandMap.{AreTaken}
-use Rattle.pmb_table.proofs.Accepted.{IsCommand-put}
+use Rattle.pmb_table.specs.machine.CommandMap.{AreTaken, IsCommandOf}
+use Rattle.pmb_table.proofs.Accepted.{All-put}
 use Rattle.pmb_table.proofs.TakenCodes.{AreTaken-push, room}
 use Rattle.pmb_table.proofs.device_commands.read_next.Goals as goal
 use Rattle.pmb_table.proofs.device_commands.read_next.Goals.{After-code_of-code, After-push}
@@ -34,4 +34,5 @@ returns-in-Err-put-clause-taken c =
 -- and the commands are ones that a device may have
 pub returns-in-Ok-put-clause-accepted : goal.returns-in-Ok-put-clause-accepted
 returns-in-Ok-put-clause-accepted c = λ all. rw c.in-Ok-put.ensures.ok
-    (IsCommand-put (command_parts c.in-Ok.command) c.args.commands.now c.in-Ok.ensures.accepted all)
+    (All-put (IsCommandOf c.args.pages) (command_parts c.in-Ok.command) c.args.commands.now c.in-Ok.ensures.accepted
+    all)

@@ -1,16 +1,17 @@
-use Rattle.std.proofs.Common.{rules}
+use Rattle.pmb_command.specs.Parts.{all_same, has_one_mode}
+use Rattle.pmb_table.proofs.Accepted.{commands_of, items_of, same_where_one}
 use Rattle.pmb_table.proofs.device_reader.read_device.Goals as goal
 
-pub new-requires : goal.new-requires
-new-requires c = record {
+pub device_from-requires : goal.device_from-requires
+device_from-requires c = λ fit. record {
   address = c.in-Ok.ensures.address;
   some_page = c.in-Ok.ensures.pages.0;
   few_pages = c.in-Ok.ensures.pages.1;
-  byte = search rules;
-  own_codes = c.in-Ok-read_commands.ensures.own_codes;
-  commands = c.in-Ok-read_commands.ensures.accepted;
+  name = c.in-Ok.ensures.name;
+  mode_of_each = c.in-Ok.ensures.mode_of_each;
+  bytes = rw c.as_slice-2.ensures.value at c.are_bytes.ensures;
+  one_mode = same_where_one (has_one_mode c.in-Ok-commands_of.commands) (all_same c.in-Ok.keys.modes.items) fit;
+  own_codes = c.in-Ok-commands_of.ensures.own_codes;
+  commands = commands_of c.in-Ok.keys.pages c.in-Ok-commands_of.commands c.in-Ok-commands_of.ensures.accepted;
+  items = items_of c.in-Ok.keys.pages c.in-Ok-commands_of.commands c.in-Ok-commands_of.ensures.accepted;
 }
-
-pub returns-in-Ok-read_commands-clause-own_address : goal.returns-in-Ok-read_commands-clause-own_address
-returns-in-Ok-read_commands-clause-own_address c =
-    rw (c.new.ensures, ← c.addresses_of-addresses.ensures, ← c.as_slice.ensures.value) c.in-Ok.ensures.own_address

@@ -3,7 +3,7 @@ use Rattle.pmb_command.specs.Entry.{entry_parts}
 use Rattle.pmb_table.specs.Profile.{put}
 use Rattle.std.specs.List.{AllByRecursion}
 use Rattle.pmb_command.specs.Bus.{IsCommand}
-use Rattle.pmb_table.proofs.Accepted.{IsCommand-put}
+use Rattle.pmb_table.proofs.Accepted.{All-put}
 use Rattle.pmb_table.proofs.StandardList.{bare, put-standard, standard_from-all, standard_from-none}
 use Rattle.pmb_table.proofs.standard_commands.standard_ones.Goals as goal
 use Rattle.pmb_table.proofs.standard_commands.standard_ones.Goals.{in-Some+in_ok-put, in_default}
@@ -22,7 +22,7 @@ loop-code-preserved c =
             own_codes = search rules;
             accepted =
                 subst (AllByRecursion IsCommand) (sym (w.commands-is ∙ w.in_ok-put.ensures.ok))
-                (IsCommand-put (bare (entry_parts w.in-Some.entry)) c.loop-code.commands
+                (All-put IsCommand (bare (entry_parts w.in-Some.entry)) c.loop-code.commands
                 (record { entry = w.in-Some.ensures.sound.entry; initial = tt }) c.loop-code.invariant.accepted);
           }
       | in_default w ↦

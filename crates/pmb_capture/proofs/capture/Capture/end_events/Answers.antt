@@ -13,7 +13,7 @@ returns-in-None-clause-ends g c start reached text read stands =
       text = (g.O.Output.text account.output).at_end account.tally;
       writes = puts;
       holds = ends_in_none g.O.Output.text g.O.Output.Stands start account reached text _
-          (c.in-None.ensures reached read) stands (ap (λ o. o.at_end account.tally) stands.same);
+          (c.in-None.ensures.ends reached read) stands (ap (λ o. o.at_end account.tally) stands.same);
     }) c.put_end.ensures.puts
 
 pub returns-in_ok-take_refusal-in-Some-clause-ends : goal.returns-in_ok-take_refusal-in-Some-clause-ends
@@ -25,7 +25,7 @@ returns-in_ok-take_refusal-in-Some-clause-ends g c start reached text read stand
       text = refusal_line (refusal_data c.in-Some.refusal) ++ last;
       writes = writes_then _ _ _ _ _ _ _ last refused.puts puts;
       holds = ends_in_refusal g.O.Output.text g.O.Output.Stands start c.args.self.now.account reached after.tally
-          c.in-Some.refusal text last (c.in-Some.ensures reached read) stands refused.counted
+          c.in-Some.refusal text last (c.in-Some.ensures.ends reached read) stands refused.counted
           (ap (λ o. (g.O.Output.text o).at_end after.tally) refused.output
           ∙ ap (λ o. o.at_end after.tally) stands.same);
     }) c.put_end-in-Some.ensures.puts

@@ -30,15 +30,20 @@ returns-then-not-is_over-clause-takes g c start given text is stands =
     ∙ ap (λ (l : List ℕ). word ++ l) (sym c.behind-rest.ensures.rest) in
     let over = c.if-not-is_over.ensures in
     let later = goes_on choice profile laws.opened behind.b behind.between bytes word rest behind.used behind.put
-    old.stream new.stream split c.word_bytes-count.ensures.word taken.knows has in
+    old.stream new.stream split c.word_bytes-count.ensures.word taken.knows taken.time has in
     puts_none (λ t. StandsIn new.inside start new (given ++ bytes) t) _ _ text
     (subst (λ (i : EngineState). StandsIn i start new (given ++ bytes) text) (sym is)
     (record {
       made = made_on start old new stands.made refl refl taken.same;
       behind = behind_taken choice profile (json_bad_words start) _ _ given text bytes behind
           (waits choice profile laws.opened behind.b behind.between bytes word rest behind.used behind.put old.stream
-          new.stream split c.word_bytes-count.ensures.word taken.knows has over.0
-          (omega (arith, over.1, c.word_length-2.ensures.kept (behind_bytes behind.b later.bad) later.knows)));
+          new.stream split c.word_bytes-count.ensures.word taken.knows taken.time has over.0
+          (omega (
+            arith,
+            over.1,
+            c.word_length-2.ensures.kept (behind_bytes choice.ignored behind.b later.bad)
+                later.knows,
+          )));
     }))
 
 -- or no more of it is told
@@ -60,15 +65,15 @@ returns-clause-takes g c start given text is stands =
     ∙ ap (λ (l : List ℕ). word ++ l) (sym c.behind-rest.ensures.rest) in
     let solid = c.word_bytes-count.ensures.word in
     let later = goes_on choice profile laws.opened behind.b behind.between bytes word rest behind.used behind.put
-    old.stream new.stream split solid taken.knows has in
-    let had = c.word_length.ensures.kept (behind_bytes behind.b has.bad) has.knows in
-    let has_now = c.word_length-2.ensures.kept (behind_bytes behind.b later.bad) later.knows in
+    old.stream new.stream split solid taken.knows taken.time has in
+    let had = c.word_length.ensures.kept (behind_bytes choice.ignored behind.b has.bad) has.knows in
+    let has_now = c.word_length-2.ensures.kept (behind_bytes choice.ignored behind.b later.bad) later.knows in
     let counted : count ≡ length word = sym (length-take-le count bytes c.word_bytes-count.ensures.within) in
     let stops = subst (λ (l : List ℕ). (front_word l ≡ [])
-    ⊎ (32 ≤ length (take 32 (open_word (behind_bytes behind.b has.bad).read)) + length word))
+    ⊎ (32 ≤ length (take 32 (open_word (behind_bytes choice.ignored behind.b has.bad).read)) + length word))
     (sym c.behind-rest.ensures.rest)
     (subst (λ (n : ℕ). (front_word (drop count bytes) ≡ [])
-    ⊎ (32 ≤ length (take 32 (open_word (behind_bytes behind.b has.bad).read)) + n)) counted
+    ⊎ (32 ≤ length (take 32 (open_word (behind_bytes choice.ignored behind.b has.bad).read)) + n)) counted
     (subst (λ (n : ℕ). (front_word (drop count bytes) ≡ []) ⊎ (32 ≤ n + count)) had c.word_bytes-count.ensures.over)) in
     let over = subst (λ (n : ℕ). ((rest ≡ []) → ⊥) ⊎ (32 ≤ n)) has_now c.if-not-is_over.ensures in
     line_then c.end_bad_word.result start _ given word rest bytes text [] _ _ _ _ _ _ split (writes_nothing _ _)
@@ -79,5 +84,5 @@ returns-clause-takes g c start given text is stands =
           (BehindBadWord choice profile rest new.stream) (given ++ word) t) (sym (append-nil text))
           (behind_taken choice profile (json_bad_words start) _ _ given text word behind
           (is_behind choice profile laws.opened behind.b behind.between bytes word rest behind.used behind.put
-          old.stream new.stream split solid taken.knows has stops over));
+          old.stream new.stream split solid taken.knows taken.time has stops over));
     }))

@@ -5,6 +5,7 @@ use Rattle.pmb_json.specs.declared.engine.EngineState.TheVariants as inside
 use Rattle.pmb_json.specs.declared.engine.Json.{Json}
 use Rattle.pmb_json.specs.machine.Standing.{InBadWord, StandsIn, StandsInBadWord, json_bad_words, json_choice}
 use Rattle.pmb_json.specs.machine.Standing.{json_profile}
+use Rattle.pmb_json.proofs.OpenOthers.{OthersAreTold, tells_open}
 use Rattle.pmb_json.proofs.Reading.{made_told, words_on, words_to_bad}
 use Rattle.pmb_json.proofs.Steps.{behind_more}
 use Rattle.pmb_json.proofs.Taking.{line_then}
@@ -63,11 +64,20 @@ returns-in-Fault-clause-takes g c start given text is stands =
     (c.in_ok-take_words.ensures.takes words.begun words.reached behind.put words.scans words.told) in
     let stops = taken.holds in
     let last = end_spans stops.there.standing c.truncation.result in
+    let end = c.truncation.ensures.ends stops.there stops.reads in
+    let others : OthersAreTold = record {
+      objects = c.others_are_told.ensures.objects;
+      rest = c.others_are_told.ensures.rest;
+      counts = c.others_are_told.ensures.counts;
+      whole = c.others_are_told.ensures.whole;
+    } in
+    let tells = tells_open others choice profile stops.there c.truncation.result
+    (λ n front. c.truncation.ensures.none stops.there n front stops.reads) end in
     let split : bytes ≡ take count bytes ++ c.behind.result.now = sym (take-append-drop count bytes)
     ∙ ap (λ (l : List ℕ). take count bytes ++ l) (sym c.behind.ensures.rest) in
     let word = words_to_bad choice profile behind.b old.scan old.stream behind.used behind.put words bytes taken.text
-    count c.in-Fault.fault new.scan new.stream last c.spans_move.ensures laws.begun laws.under_way stops
-    (c.truncation.ensures stops.there stops.reads) in
+    count c.in-Fault.fault new.scan new.stream last c.spans_move.ensures c.open_times_stay.ensures laws.begun
+    laws.under_way stops tells end in
     let made = made_told start old new words.begun stands.made refl refl words.same_choice words.same_profile
     (stops.visited.told behind.b words.begins).same in
     let standing : StandsInBadWord (drop count bytes) start new (given ++ take count bytes) (text ++ taken.text) =

@@ -1,16 +1,18 @@
-use Rattle.std.proofs.Common.{[], refl, subst}
+use Rattle.std.proofs.Common.{List, [], refl, subst}
 use Rattle.std.proofs.lemmas.Result.{on_ok_weaker}
 use Rattle.pmb_io.specs.Outgoing.{PutsText}
 use Rattle.pmb_io.proofs.Writing.{on_ok_both}
+use Rattle.pmb_command.specs.Parts.{DeviceParts}
 use Rattle.pmb_json.specs.declared.engine.EngineState.{EngineState}
+use Rattle.pmb_json.specs.Text.{last_objects}
 use Rattle.pmb_json.specs.machine.Standing.{StandsIn, behind_bytes, behind_object, json_bad_words, json_choice}
 use Rattle.pmb_json.specs.machine.Standing.{json_profile, json_tally, last_word_objects}
 use Rattle.pmb_json.proofs.Fronts.{bad_line_now}
 use Rattle.pmb_json.proofs.Steps.{ends_in_line, ends_in_word}
 use Rattle.pmb_json.proofs.Words.{solid_no_lf}
-use Rattle.pmb_json_objects.specs.Counts.{end_objects}
 use Rattle.pmb_json_objects.specs.Object.{object_lines}
 use Rattle.pmb_json_stream.specs.Choice.{ChoiceData}
+use Rattle.pmb_json_stream.specs.Stream.{stream_profile, stream_time}
 use Rattle.pmb_json.proofs.engine.JsonEngine.end.Goals as goal
 
 pub returns-in-Words-clause-ends : goal.returns-in-Words-clause-ends
@@ -27,15 +29,21 @@ returns-in-BadWord-clause-ends g c start bytes text stands =
     let laws = c.bad_words_stand_there.ensures in
     let behind = word.behind in
     let has = behind.holds.word in
-    let b = behind_bytes behind.b has.bad in
-    let said = object_lines choice.devices (last_word_objects b) in
+    let b = behind_bytes choice.ignored behind.b has.bad in
+    let stream = c.args.self.now.stream in
+    let objects = λ (k : ChoiceData) (p : List DeviceParts).
+    object_lines k.devices (last_word_objects k p (stream_time stream) b) in
+    let said = objects choice profile in
     on_ok_both c.put_last_word.result (λ put after. record {
       text = said;
-      writes = subst (λ (k : ChoiceData). PutsText (g.W.Sink.told c.args.writer.now).held c.args.waiting.now.items
+      writes = subst (λ (p : List DeviceParts). PutsText (g.W.Sink.told c.args.writer.now).held
+          c.args.waiting.now.items (g.W.Sink.told c.put_last_word.new.writer).held
+          c.put_last_word.new.waiting.items (objects choice p)) word.made.reads
+          (subst (λ (k : ChoiceData). PutsText (g.W.Sink.told c.args.writer.now).held c.args.waiting.now.items
           (g.W.Sink.told c.put_last_word.new.writer).held c.put_last_word.new.waiting.items
-          (object_lines k.devices (last_word_objects b))) word.made.choice put;
+          (objects k (stream_profile stream))) word.made.choice put);
       holds = ends_in_word choice profile (json_bad_words start) bytes text _ behind laws.opened laws.placed has.bad
-          said (json_tally c.put_last_word.new.self) has.is_text
+          (stream_time stream) said (json_tally c.put_last_word.new.self) has.time has.is_text
           (bad_line_now choice profile behind.b has.bad has.so_far (solid_no_lf has.bad.line has.under_way))
           has.under_way (has.lines []) refl after.tally;
     }) (c.put_last_word.ensures.puts b has.knows) (c.put_last_word.ensures.knows b has.knows)
@@ -48,13 +56,19 @@ returns-in-BadLine-clause-ends g c start bytes text stands =
     let line = subst (λ (i : EngineState). StandsIn i start c.args.self.now bytes text) c.in-BadLine.is stands in
     let behind = line.1.behind in
     let has = behind.holds in
-    let b = behind_object behind.b has.bad in
-    let said = object_lines choice.devices (end_objects b.counts) in
+    let b = behind_object choice.ignored behind.b has.bad in
+    let stream = c.args.self.now.stream in
+    let objects = λ (k : ChoiceData) (p : List DeviceParts).
+    object_lines k.devices (last_objects k p b.counts) in
+    let said = objects choice profile in
     on_ok_weaker c.put_counts.result (λ put. record {
       text = said;
-      writes = subst (λ (k : ChoiceData). PutsText (g.W.Sink.told c.args.writer.now).held c.args.waiting.now.items
+      writes = subst (λ (p : List DeviceParts). PutsText (g.W.Sink.told c.args.writer.now).held
+          c.args.waiting.now.items (g.W.Sink.told c.put_counts.new.writer).held c.put_counts.new.waiting.items
+          (objects choice p)) line.1.made.reads
+          (subst (λ (k : ChoiceData). PutsText (g.W.Sink.told c.args.writer.now).held c.args.waiting.now.items
           (g.W.Sink.told c.put_counts.new.writer).held c.put_counts.new.waiting.items
-          (object_lines k.devices (end_objects b.counts))) line.1.made.choice put;
+          (objects k (stream_profile stream))) line.1.made.choice put);
       holds = ends_in_line choice profile (json_bad_words start) bytes text _ behind has.bad said
           (json_tally c.args.self.now) has.is_text
           (bad_line_now choice profile behind.b has.bad has.so_far has.in_line)

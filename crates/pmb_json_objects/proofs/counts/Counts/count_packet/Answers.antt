@@ -8,4 +8,5 @@ returns c = λ known counts. record {
   packets = search rules;
   refusals = counts.refusals;
   bad_tokens = counts.bad_tokens;
+  others = counts.others;
 }

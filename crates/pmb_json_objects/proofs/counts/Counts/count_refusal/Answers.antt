@@ -16,4 +16,5 @@ returns-in-Some c = λ known counts.
       packets = counts.packets;
       refusals = search rules;
       bad_tokens = counts.bad_tokens;
+      others = counts.others;
     }

@@ -17,4 +17,5 @@ returns c =
       packets = refl;
       refusals = refl;
       bad_tokens = refl;
+      others = refl;
     }

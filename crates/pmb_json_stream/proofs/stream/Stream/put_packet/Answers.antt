@@ -1,7 +1,8 @@
-use Rattle.std.proofs.Common.{ap, sym, ◌∙◌}
+use Rattle.std.proofs.Common.{ℕ, List, ap, sym, ◌∙◌}
 use Rattle.std.proofs.lemmas.Result.{on_ok_weaker}
 use Rattle.pmb_transaction.specs.declared.transaction.Transaction.{Transaction}
-use Rattle.pmb_transaction.specs.Transaction.{transaction_data}
+use Rattle.pmb_transaction.specs.Transaction.{Call, Read, transaction_data}
+use Rattle.pmb_json_stream.specs.Stream.{stream_time}
 use Rattle.pmb_json_stream.specs.machine.Begun.{kept_objects}
 use Rattle.pmb_json_stream.specs.machine.Knowing.{stream_seen}
 use Rattle.pmb_json_stream.proofs.Putting.{puts_as, puts_both}
@@ -14,15 +15,17 @@ returns-in_ok-put_parts-in-Refused-clause-puts g c some known =
     let stream = c.args.self.now in
     let refused = c.in-Refused in
     on_ok_weaker c.put_refused.result (λ puts.
-    puts_as stream _ (λ b. kept_objects (stream_seen stream b) stream.begun.items
+    puts_as stream _ (λ b. kept_objects (stream_seen stream b) (stream_time stream) stream.begun.items
     (transaction_data c.args.transaction.now)) _ _ _ _
     (λ b.
-    refused_kept (stream_seen stream b) stream.begun.items refused.parts.items c.as_slice-in-Refused.result.now
+    refused_kept (stream_seen stream b) (stream_time stream) stream.begun.items refused.parts.items
+    c.as_slice-in-Refused.result.now
     refused.sent.items c.as_slice-in-Refused-2.result.now c.len-in-Refused.result c.len-in-Refused-2.result
     refused.addr refused.at_read
     c.as_slice-in-Refused.ensures.value c.len-in-Refused.ensures.value c.len-in-Refused-2.ensures.value
     c.as_slice-in-Refused-2.ensures.value
-    ∙ ap (λ (t : Transaction). kept_objects (stream_seen stream b) stream.begun.items (transaction_data t))
+    ∙ ap (λ (t : Transaction). kept_objects (stream_seen stream b) (stream_time stream) stream.begun.items
+    (transaction_data t))
     (sym refused.is))
     (puts_both stream _ _ _ _ _ _ _ _ (c.in_ok-put_parts-in-Refused.ensures.puts some known) puts))
     (c.put_refused.ensures.puts some known)
@@ -31,8 +34,46 @@ pub returns-in-Alert-clause-puts : goal.returns-in-Alert-clause-puts
 returns-in-Alert-clause-puts g c some known =
     let stream = c.args.self.now in
     on_ok_weaker c.put_alert.result (λ puts.
-    puts_as stream _ (λ b. kept_objects (stream_seen stream b) stream.begun.items
+    puts_as stream _ (λ b. kept_objects (stream_seen stream b) (stream_time stream) stream.begun.items
     (transaction_data c.args.transaction.now)) _ _ _ _
-    (λ b. ap (λ (t : Transaction). kept_objects (stream_seen stream b) stream.begun.items (transaction_data t))
+    (λ b. ap (λ (t : Transaction). kept_objects (stream_seen stream b) (stream_time stream) stream.begun.items
+    (transaction_data t))
     (sym c.in-Alert.is)) puts)
     (c.put_alert.ensures.puts some known)
+
+pub returns-in-Read-clause-puts : goal.returns-in-Read-clause-puts
+returns-in-Read-clause-puts g c some known =
+    let stream = c.args.self.now in
+    let read = c.in-Read in
+    on_ok_weaker c.put_read.result (λ puts.
+    puts_as stream _ (λ b. kept_objects (stream_seen stream b) (stream_time stream) stream.begun.items
+    (transaction_data c.args.transaction.now)) _ _ _ _
+    (λ b. ap (λ (bytes : List ℕ). kept_objects (stream_seen stream b) (stream_time stream) stream.begun.items
+    (Read (record { addr = read.addr; code = read.code; reply = bytes; pec = read.pec })))
+    c.as_slice-in-Read.ensures.value
+    ∙ ap (λ (t : Transaction). kept_objects (stream_seen stream b) (stream_time stream) stream.begun.items
+    (transaction_data t)) (sym read.is)) puts)
+    (c.put_read.ensures.puts some known)
+
+pub returns-in-Call-clause-puts : goal.returns-in-Call-clause-puts
+returns-in-Call-clause-puts g c some known =
+    let stream = c.args.self.now in
+    let call = c.in-Call in
+    on_ok_weaker c.put_call.result (λ puts.
+    puts_as stream _ (λ b. kept_objects (stream_seen stream b) (stream_time stream) stream.begun.items
+    (transaction_data c.args.transaction.now)) _ _ _ _
+    (λ b. ap (λ (sent : List ℕ). kept_objects (stream_seen stream b) (stream_time stream) stream.begun.items
+    (Call (record {
+      addr = call.addr;
+      code = call.code;
+      bytes = sent;
+      reply = c.as_slice-in-Call-2.result.now;
+      pec =
+          call.pec;
+    }))) c.as_slice-in-Call.ensures.value
+    ∙ ap (λ (reply : List ℕ). kept_objects (stream_seen stream b) (stream_time stream) stream.begun.items
+    (Call (record { addr = call.addr; code = call.code; bytes = call.bytes.items; reply = reply; pec = call.pec })))
+    c.as_slice-in-Call-2.ensures.value
+    ∙ ap (λ (t : Transaction). kept_objects (stream_seen stream b) (stream_time stream) stream.begun.items
+    (transaction_data t)) (sym call.is)) puts)
+    (c.put_call.ensures.puts some known)

@@ -1,6 +1,7 @@
 use Rattle.std.proofs.Common.{◌≡◌, [], ◌∷◌, ◌++◌, ◌+◌, ap, sym, ◌∙◌, refl, map, take, drop, add-one, arith}
 use Rattle.std.proofs.lemmas.List.{length-map}
 use Rattle.pmb_transaction.specs.Transaction.{part_data}
+use Rattle.pmb_json_stream.specs.Stream.{stream_time}
 use Rattle.pmb_json_stream.specs.machine.Begun.{kept_writes}
 use Rattle.pmb_json_stream.specs.machine.Knowing.{stream_seen}
 use Rattle.pmb_json_stream.proofs.Lists.{got}
@@ -21,18 +22,25 @@ loop-index-preserved g c = record {
       let part = c.index-parts-index.result in
       let number : 1 + i ≡ i + 1 = omega arith in
       puts_as stream
-      (λ b. kept_writes (stream_seen stream b) 1 c.args.count (take i stream.begun.items) (take i parts)
-      ++ kept_writes (stream_seen stream b) (i + 1) c.args.count (take 1 (drop i stream.begun.items))
+      (λ b. kept_writes (stream_seen stream b) (stream_time stream) 1 c.args.count (take i stream.begun.items)
+      (take i parts)
+      ++ kept_writes (stream_seen stream b) (stream_time stream) (i + 1) c.args.count
+      (take 1 (drop i stream.begun.items))
       (part_data part ∷ []))
-      (λ b. kept_writes (stream_seen stream b) 1 c.args.count (take (i + 1) stream.begun.items) (take (i + 1) parts)) _
+      (λ b. kept_writes (stream_seen stream b) (stream_time stream) 1 c.args.count (take (i + 1) stream.begun.items)
+      (take (i + 1) parts)) _
       _ _ _
-      (λ b. sym (ap (λ k. kept_writes (stream_seen stream b) 1 c.args.count (take k stream.begun.items) (take k parts))
+      (λ b. sym (ap (λ k. kept_writes (stream_seen stream b) (stream_time stream) 1 c.args.count
+      (take k stream.begun.items) (take k parts))
       (add-one i)
-      ∙ one_more_write (stream_seen stream b) 1 c.args.count i stream.begun.items parts (part_data part)
+      ∙ one_more_write (stream_seen stream b) (stream_time stream) 1 c.args.count i stream.begun.items parts
+      (part_data part)
       (omega (arith, c.loop-index-test.true, length-map c.args.parts.now part_data))
       (got part_data c.args.parts.now i part c.index-parts-index.is)
-      ∙ ap (λ k. kept_writes (stream_seen stream b) 1 c.args.count (take i stream.begun.items) (take i parts)
-      ++ kept_writes (stream_seen stream b) k c.args.count (take 1 (drop i stream.begun.items)) (part_data part ∷ []))
+      ∙ ap (λ k. kept_writes (stream_seen stream b) (stream_time stream) 1 c.args.count (take i stream.begun.items)
+      (take i parts)
+      ++ kept_writes (stream_seen stream b) (stream_time stream) k c.args.count (take 1 (drop i stream.begun.items))
+      (part_data part ∷ []))
       number))
       (puts_both stream _ _ _ _ _ _ _ _ (c.loop-index.invariant.puts some known)
       (c.in_ok-put_part.ensures.puts some known));
@@ -42,9 +50,11 @@ pub returns-clause-puts : goal.returns-clause-puts
 returns-clause-puts g c some known =
     let stream = c.args.self.now in
     let parts = map part_data c.args.parts.now in
-    puts_as stream (λ b. kept_writes (stream_seen stream b) 1 c.args.count (take c.loop-index.index stream.begun.items)
+    puts_as stream (λ b. kept_writes (stream_seen stream b) (stream_time stream) 1 c.args.count
+    (take c.loop-index.index stream.begun.items)
     (take c.loop-index.index parts))
-    (λ b. kept_writes (stream_seen stream b) 1 c.args.count stream.begun.items parts) _ _ _ _
-    (λ b. all_writes (stream_seen stream b) 1 c.args.count c.loop-index.index stream.begun.items parts
+    (λ b. kept_writes (stream_seen stream b) (stream_time stream) 1 c.args.count stream.begun.items parts) _ _ _ _
+    (λ b. all_writes (stream_seen stream b) (stream_time stream) 1 c.args.count c.loop-index.index stream.begun.items
+    parts
     (omega (arith, c.loop-index-test.false, length-map c.args.parts.now part_data)))
     (c.loop-index.invariant.puts some known)

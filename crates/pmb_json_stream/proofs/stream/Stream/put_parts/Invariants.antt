@@ -1,7 +1,7 @@
 use Rattle.std.proofs.Common.{◌≡◌, map, take}
 use Rattle.pmb_transaction.specs.Transaction.{part_data}
 use Rattle.pmb_json_stream.specs.Before.{Before}
-use Rattle.pmb_json_stream.specs.Stream.{StreamKnows}
+use Rattle.pmb_json_stream.specs.Stream.{StreamKnows, stream_time}
 use Rattle.pmb_json_stream.specs.machine.Begun.{kept_writes}
 use Rattle.pmb_json_stream.specs.machine.Knowing.{stream_seen}
 use Rattle.pmb_json_stream.specs.machine.Putting.{PutsObjects}
@@ -12,7 +12,8 @@ abbrev pub invariant-loop-index : goal.invariant-loop-index
 invariant-loop-index g l = record {
   failures : (g.W.Sink.told l.writer).failures ≡ (g.W.Sink.told l.fn.writer).failures;
   puts : (some : Before) → StreamKnows some l.self
-      → PutsObjects l.self (λ b. kept_writes (stream_seen l.self b) 1 l.count (take l.index l.self.begun.items)
+      → PutsObjects l.self (λ b. kept_writes (stream_seen l.self b) (stream_time l.self) 1 l.count
+      (take l.index l.self.begun.items)
       (take l.index (map part_data l.parts)))
       (g.W.Sink.told l.fn.writer).held l.fn.waiting.items (g.W.Sink.told l.writer).held l.waiting.items;
 }

@@ -1,7 +1,7 @@
 use Rattle.std.proofs.Common.{◌≡◌, ℕ, List, false, inl, inr, subst, sym, ap, ◌∙◌, take}
 use Rattle.pmb_bus.specs.Text.{ends_in_comment}
 use Rattle.pmb_places.specs.declared.short_word.ShortWord.{ShortWord}
-use Rattle.pmb_places.specs.machine.ShortWord.{IsShortWord}
+use Rattle.pmb_places.specs.ShortWord.{IsShortWord}
 use Rattle.pmb_places.proofs.ShortWords.{Closed, closed_one, closed_two}
 use Rattle.pmb_places.proofs.open_word.OpenWord.take.Goals as goal
 

@@ -1,26 +1,25 @@
-use Rattle.std.proofs.Common.{[], refl, sym, subst, append-nil}
+use Rattle.std.proofs.Common.{refl}
 use Rattle.std.proofs.lemmas.Result.{on_ok_weaker}
-use Rattle.pmb_io.proofs.Writing.{writes_nothing}
 use Rattle.pmb_reader.specs.Reader.{last_read}
 use Rattle.pmb_reader.specs.Refusal.{refusal_data}
 use Rattle.pmb_scan.specs.Reached.{behind_event, behind_packet, behind_refusal}
 use Rattle.pmb_scan.proofs.scan.Scan.take_event.Goals as goal
 
--- no text goes out
 pub returns-in-Continues-clause-takes : goal.returns-in-Continues-clause-takes
-returns-in-Continues-clause-takes g c start reached text read visited spells = record {
-  text = [];
-  writes = writes_nothing _ _;
-  holds = record {
-    there = behind_event reached c.args.event;
-    profile = refl;
-    same_text = refl;
-    events = refl;
-    reads = c.in-Continues.ensures reached read;
-    visited = subst (λ t. g.V.Visitor.Stands start c.visit_event.new.self (behind_event reached c.args.event) t)
-        (sym (append-nil text)) (c.visit_event.ensures start reached text visited spells);
-  };
-}
+returns-in-Continues-clause-takes g c start reached text read visited spells =
+    let goes = c.in-Continues.ensures reached read in
+    on_ok_weaker c.visit_event.result (λ puts. record {
+      text = puts.text;
+      writes = puts.writes;
+      holds = record {
+        there = behind_event reached c.args.event;
+        profile = refl;
+        same_text = refl;
+        events = refl;
+        reads = goes.reads;
+        visited = puts.holds;
+      };
+    }) (c.visit_event.ensures.visits start reached text visited spells goes.may)
 
 pub returns-in-Packet-clause-takes : goal.returns-in-Packet-clause-takes
 returns-in-Packet-clause-takes g c start reached text read visited spells =

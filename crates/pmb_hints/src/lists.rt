@@ -1,0 +1,83 @@
+//! Hints for keys whose value is an array of numbers, and for lists with an item for each page.
+//!
+//! Its rows: `tests/rows/hints.txt`.
+
+use crate::keyed::Keyed;
+use crate::lines::Hints;
+use arrayvec::ArrayString;
+use std::fmt::Write;
+use toml::Value;
+
+/// A rule as it is written after a key and its value.
+type Rule = ArrayString<128>;
+
+/// The first item of a key's array that is no number up to another, if there is one.
+fn first_over(keyed: Keyed<'_>, key: &str, most: i64) -> Option<usize> {
+    for (place, item) in keyed.items(key)?.iter().enumerate() {
+        if let Some(number) = item.as_integer() {
+            if number < 0 || number > most {
+                return Some(place);
+            }
+        }
+    }
+    None
+}
+
+/// Writes that a key's array has not an item for each page of the device, if it has not.
+pub(crate) fn count_of_pages(keyed: Keyed<'_>, key: &str, lines: &mut Hints) -> bool {
+    let Some(items) = keyed.items(key) else {
+        return false;
+    };
+    let (count, pages) = (items.len(), keyed.place.pages);
+    if i64::try_from(count) == Ok(pages) {
+        return false;
+    }
+    let mut rule = Rule::new();
+    let _ = write!(
+        rule,
+        "an item for each page is needed: pages are {pages}, items {count}"
+    );
+    keyed.rule(key, rule.as_str(), lines)
+}
+
+/// Writes what is wrong with a list of VOUT_MODE: an item that is no byte, how many there are, or that
+/// they differ while VOUT_MODE has one value for all pages.
+pub(crate) fn modes_hint(keyed: Keyed<'_>, lines: &mut Hints) -> bool {
+    if let Some(place) = first_over(keyed, "vout_mode", 255) {
+        let rule = "a number from 0 to 255 is needed";
+        return keyed.item_rule("vout_mode", place, rule, lines);
+    }
+    if count_of_pages(keyed, "vout_mode", lines) {
+        return true;
+    }
+    let rule = "the items have to be the same, since VOUT_MODE is not paged";
+    keyed.items("vout_mode").is_some() && keyed.rule("vout_mode", rule, lines)
+}
+
+/// Writes an ignored address that is none of 7 bits, if there is one.
+pub(crate) fn ignored_hint(keyed: Keyed<'_>, lines: &mut Hints) -> bool {
+    let rule = "an address of 7 bits is needed, from 0 to 127";
+    match first_over(keyed, "ignore", 127) {
+        Some(place) => keyed.item_rule("ignore", place, rule, lines),
+        None => false,
+    }
+}
+
+/// Writes that the address of a device is ignored, if it is.
+pub(crate) fn address_ignored(keyed: Keyed<'_>, lines: &mut Hints) -> bool {
+    let Some(address) = keyed.number("address") else {
+        return false;
+    };
+    let rule = "ignore has this address, so no device can be there";
+    is_item(keyed.place.ignored, address) && keyed.rule("address", rule, lines)
+}
+
+/// Whether a number is one of some values.
+fn is_item(items: &[Value], number: i64) -> bool {
+    for item in items {
+        if item.as_integer() == Some(number) {
+            return true;
+        }
+    }
+    false
+}

@@ -1,0 +1,2 @@
+-- What private fields say of the text that was given.
+pub mod Standing

@@ -1,6 +1,0 @@
-use Rattle.std.proofs.Common.{◌≡◌, replicate}
-use Rattle.pmb_unknown_start.proofs.known.Known.new.Given as goal
-
--- the pages so far
-abbrev pub invariant-loop : goal.invariant-loop
-invariant-loop l = l.modes.items ≡ replicate l.counter l.mode

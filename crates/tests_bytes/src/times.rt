@@ -1,0 +1,6 @@
+//! Tests of `pmb_times`.
+
+mod example;
+mod lines;
+mod rests;
+mod rows;
