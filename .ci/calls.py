@@ -518,6 +518,24 @@ def compare_wrong_types():
     check(pmb.command_name(True) == "OPERATION", "an int is a bool too")
 
 
+def compare_keys():
+    """What an object has of its packet's time, of its device's name, and of what is assumed."""
+    named = "ignore = [0x50]\n" + PLAIN + "name = 'VDD \"0\"'\n"
+    capture = "# 1.5 s\nS a0 N P\n# 2026-01-25T15:30:08Z\nS b0 A 21 A 00 A 18 A P\nx"
+    found = list(pmb.transactions(named, capture))
+    kinds = [(it["kind"], it.get("device"), it.get("name"), it.get("time")) for it in found]
+    check(kinds == [
+        ("other", "50", None, "1.5"),
+        ("write", "58", 'VDD "0"', "2026-01-25T15:30:08Z"),
+        ("bad_token", None, None, None),
+    ], f"the keys of objects: {kinds}")
+    check([it.get("mode") for it in found] == [None, "assumed", None], f"what is assumed: {found}")
+    text = pmb.json(named, capture)
+    check((text.packets, text.refusals) == (1, 1), f"others: {text.packets}, {text.refusals}")
+    check(json.loads(text.splitlines()[-1])["others"] == 1, "others at the end")
+    check("others" not in pmb.json(PLAIN, capture), "others of a profile that ignores nothing")
+
+
 def check_raises(wrong, call, *given):
     try:
         found = call(*given)
@@ -800,6 +818,7 @@ def main():
     compare_floats()
     compare_neighbours()
     compare_wrong_types()
+    compare_keys()
     compare_copies()
     compare_pools()
     compare_rooms()

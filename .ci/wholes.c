@@ -119,11 +119,19 @@ static const input inputs[] = {
     {JSON, PACKET,
      "{\"at\":0,\"line\":1,\"column\":1,\"kind\":\"write\",\"device\":\"58\",\"code\":\"21\","
      "\"command\":\"VOUT_COMMAND\",\"page\":0,\"bytes\":\"0018\",\"pec\":true,\"value\":\"12\","
-     "\"number\":12}\n"
+     "\"number\":12,\"mode\":\"assumed\"}\n"
      "{\"kind\":\"device\",\"device\":\"58\",\"writes\":1,\"reads\":0,\"calls\":0,\"refused\":0,"
      "\"refusals\":0}\n"
      "{\"kind\":\"end\",\"packets\":1,\"refusals\":0,\"bad_tokens\":0}\n",
      1, 0},
+    {JSON, "# 1.5 s\nS 40 N P\n# 2\nS 19 N P",
+     "{\"at\":0,\"line\":2,\"column\":1,\"time\":\"1.5\",\"kind\":\"refused\",\"device\":\"20\","
+     "\"refused\":\"address\",\"sent\":\"\"}\n"
+     "{\"at\":4,\"line\":4,\"column\":1,\"kind\":\"alert\",\"device\":null}\n"
+     "{\"kind\":\"device\",\"device\":\"20\",\"writes\":0,\"reads\":0,\"calls\":0,\"refused\":1,"
+     "\"refusals\":0}\n"
+     "{\"kind\":\"end\",\"packets\":2,\"refusals\":0,\"bad_tokens\":0}\n",
+     2, 0},
 };
 
 static const pmb_choice usual = {6, PMB_ALL_KNOWN, PMB_END};
@@ -208,6 +216,10 @@ static const struct bad {
     {"[[device]]\naddress = 0x0c\npec = \"off\"", PMB_BAD_ADDRESS, 0, -1},
     {DEVICE DEVICE, PMB_ADDRESS_TWICE, 1, -1},
     {DEVICE "vout_mode = 256", PMB_BAD_VALUE, 0, -1},
+    {DEVICE "pages = 2\nvout_mode = [0x14]", PMB_BAD_VALUE, 0, -1},
+    {DEVICE "name = \"\"", PMB_BAD_NAME, 0, -1},
+    {"ignore = [0x50, 128]\ndevice = []", PMB_BAD_VALUE, -1, -1},
+    {"ignore = [0x10]\n" DEVICE, PMB_BAD_VALUE, 0, -1},
     {DEVICE "pages = 33", PMB_BAD_PAGES, 0, -1},
     {"[[device]]\naddress = 0x11\npec = \"on\"\n" DEVICE COMMAND "name = \"NO_SUCH\"", PMB_UNKNOWN_NAME, 1, 0},
     {DEVICE COMMAND "name = \"PAGE\"\n" COMMAND "code = 0xd0\nname = \"x\"", PMB_BAD_NAME, 0, 1},
@@ -215,6 +227,7 @@ static const struct bad {
     {DEVICE "vout_direct = { m = 0, b = 0, r = 0 }", PMB_BAD_COEFFICIENTS, 0, -1},
     {DEVICE COMMAND "name = \"PAGE\"\n" COMMAND "name = \"PAGE\"", PMB_CODE_TWICE, 0, 1},
     {DEVICE COMMAND "name = \"READ_VIN\"\ninitial = \"00\"", PMB_BAD_INITIAL, 0, 0},
+    {DEVICE COMMAND "name = \"READ_VIN\"\ninitial = [\"00d3\", \"00d3\"]", PMB_BAD_INITIAL, 0, 0},
 };
 
 static int is_refused(const char *toml, size_t length, int fault, int device, int command)
@@ -362,6 +375,25 @@ static int addresses(void)
             else
                 EXPECT(tells(&told, PMB_BAD_CHOICE, 0, -1, -1, 0, 0, 0));
         }
+    return 0;
+}
+
+/* A packet to an address that the profile ignores is neither a packet nor a refusal. */
+static int json_of_others(void)
+{
+    static const char ignores[] = "ignore = [0x50]\ndevice = []\n";
+    static const char right[] =
+        "{\"at\":1,\"line\":2,\"column\":3,\"time\":\"1\",\"kind\":\"other\",\"device\":\"50\"}\n"
+        "{\"kind\":\"device\",\"device\":\"50\",\"writes\":0,\"reads\":0,\"calls\":0,\"refused\":0,"
+        "\"refusals\":0,\"others\":1}\n"
+        "{\"kind\":\"end\",\"packets\":0,\"refusals\":0,\"bad_tokens\":0,\"others\":1}\n";
+    static const char text[] = "# 1 s\nS a0 A 00 S";
+    char bytes[MOST];
+    pmb_result told;
+    size_t length = pmb_json(ignores, sizeof ignores - 1, text, sizeof text - 1, &usual, none, 0,
+                             bytes, sizeof bytes, &told);
+    EXPECT(tells(&told, PMB_OK, 0, -1, -1, sizeof right - 1, 0, 0));
+    EXPECT(length == sizeof right - 1 && memcmp(bytes, right, length) == 0);
     return 0;
 }
 
@@ -575,7 +607,7 @@ static int refusals(void)
 static void *all(void *result)
 {
     *(int *)result = rooms() || faults() || explanations() || nested() || choices() ||
-                     addresses() || json_as_chosen() || large();
+                     addresses() || json_as_chosen() || json_of_others() || large();
     return result;
 }
 

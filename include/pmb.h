@@ -282,7 +282,8 @@ typedef struct pmb_choice {
 
 /* Writes the objects of a capture (docs/json.md), each as a line of JSON. Of packets and refusals
  * those of devices at the given addresses are wanted, and all where no address is given. An address
- * has seven bits: 58h, and not b0h.
+ * has seven bits: 58h, and not b0h. Packets to an address that the profile ignores have objects, and
+ * count neither as packets nor as refusals.
  * The status is PMB_BAD_CHOICE, before all others, for a choice with a field out of range, and for
  * an address over 7fh. */
 size_t pmb_json(const char *profile, size_t profile_length, const char *capture,

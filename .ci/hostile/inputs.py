@@ -57,7 +57,7 @@ CAPTURE = [
     b"S b0 A 03 A 47 A P\n",
     b"S b0 A 21 A 00 A 18 A f8 A P\n",
     b"S B0\tA 20 A\r\n14 A P\n",
-    b"S b0 A 21 A 00 A 18 A P\n",
+    b"# 1.5 s\r\nS b0 A 21 A 00 A 18 A P\n",
     b"S b0 A 03 A S b2 A 03 A P\n",
     b"S b0 A 88 A S b1 A 00 A d3 A f7 N P\n",
     b"S 19 A b0 N P\n",

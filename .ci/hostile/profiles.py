@@ -98,17 +98,38 @@ def long_initials(size):
     return "".join(text) + "#" * room
 
 
+def lists_of_pages(size):
+    """Devices with a mode of each page, and blocks without bytes on each of 32 pages, as many as there
+    is room for."""
+    codes = [c for c in range(256) if c not in (0x00, 0x03, 0x20, 0x30, 0x7e)]
+    modes = ",".join(str(page) for page in range(32))
+    empty = ",".join(["''"] * 32)
+    text, room = [], size
+    for address in range(0x10, 0x50):
+        head = f"[[device]]\naddress={address}\npec='off'\nstandard=false\npages=32\nvout_mode=[{modes}]\n"
+        items = [f"[[device.command]]\ncode={code}\nread='block'\npaged=true\ninitial=[{empty}]\n"
+                 for code in codes]
+        for item in [head] + items if len(head) <= room else []:
+            if len(item) > room:
+                break
+            text.append(item)
+            room -= len(item)
+    return "".join(text) + "#" * room
+
+
 def profiles():
     """The name of each, its bytes, and what is answered."""
     for size in (LIMIT, LIMIT - 1):
         yield f"64 x 256 commands, {size}", all_commands(size), TAKEN
         yield f"blocks of 255 bytes, {size}", long_initials(size), TAKEN
+        yield f"a mode and blocks of each of 32 pages, {size}", lists_of_pages(size), TAKEN
     first = " in device 0 command 0"
     not_toml = refused("NotToml")
     unknown = refused("UnknownKey")
     wrong = refused("WrongType")
     many = refused("TooManyDevices")
     missing = refused("MissingKey")
+    bad = refused("BadValue")
 
     # nesting
     yield "arrays, one in another", nested("[", "]"), not_toml
@@ -175,6 +196,14 @@ def profiles():
     yield "the most inline tables", fill("device=[", "{},", "]"), many
     yield "the most integers", fill("device=[", "1,", "]"), many
     yield "the most integers of another key", fill("a=[", "1,", "]"), unknown
+    yield "the most addresses to ignore", fill("ignore=[", "1,", "]\ndevice=[]"), TAKEN
+    yield "the most addresses to ignore, the last none", fill("ignore=[", "1,", "128]\ndevice=[]"), bad
+    yield ("the most modes of pages",
+           fill("[[device]]\naddress=16\npec='off'\nvout_mode=[", "1,", "]"),
+           refused("BadValue", " in device 0"))
+    yield ("the most first bytes of pages",
+           fill("[[device]]\naddress=16\npec='off'\n[[device.command]]\nname='READ_VIN'\ninitial=[", "'00d3',", "]"),
+           refused("BadInitial", first))
     yield "the most booleans", fill("device=[", "true,", "]"), many
     yield "the most floats", fill("device=[", "0.,".replace(".", ".0"), "]"), many
     yield "the most dates", fill("device=[", "1979-05-27,", "]"), many
@@ -199,6 +228,8 @@ def profiles():
     yield ("the longest initial, the last no digit",
            fill(initial, "0", "g'"), refused("BadInitial", first))
     yield "the longest name", fill(command + "code=1\nname='", "A", "'"), refused("BadName", first)
+    yield ("the longest name of a device",
+           fill("[[device]]\naddress=16\npec='off'\nname='", "A", "'"), refused("BadName", " in device 0"))
     yield "the longest name of none", fill(command + "name='", "A", "'"), refused("UnknownName", first)
 
     # numbers

@@ -22,7 +22,7 @@ class SimulatedDevice:
         """What a register holds."""
         if (page, entry.code) in self.changed:
             return self.changed[page, entry.code]
-        return first_value(self.device, entry)
+        return first_value(self.device, page, entry)
 
     def pages_of(self, entry):
         """The pages whose registers of a command are meant: the selected one or all of them. A
@@ -83,12 +83,12 @@ class SimulatedDevice:
                 self.changed[page, 0x7E] = (self.register(page, entry)[0] | bit,)
 
 
-def first_value(device, entry):
-    """What a register begins with."""
+def first_value(device, page, entry):
+    """What the register of a page begins with."""
     if entry.code == 0x20:
-        return (device.vout_mode,)
+        return (device.modes[page],)
     if entry.initial is not None:
-        return tuple(entry.initial)
+        return tuple(entry.initial_on(page))
     form = entry.form_held()
     return () if form == "block" else (0,) * SIZES[form]
 

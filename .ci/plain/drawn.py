@@ -3,12 +3,13 @@ them right."""
 
 from fractions import Fraction
 
-from . import lines, numbers, packets, profiles, tables
+from . import lines, numbers, packets, profiles, tables, traffic
 from .packets import Alert, Call, NoAlert, Part, Read, Refused, Write
 
 PROFILES = (
     (["--sample"], b"", profiles.SAMPLE),
     ([], profiles.ODD_TEXT + b"%%\n", profiles.ODD),
+    ([], profiles.UNLIKE_TEXT + b"%%\n", profiles.UNLIKE),
 )
 OFTEN = (0x00, 0x03, 0x20, 0x21, 0x22, 0x30, 0x79, 0x7E, 0x88, 0x99)
 
@@ -78,14 +79,27 @@ def refused(chance, profile):
     return Refused(before, address, sent, False)
 
 
+def packet(chance, profile):
+    """The events of a packet; seldom none."""
+    drawn = transaction(chance, profile)
+    return packets.events_of(profile, drawn) if packets.check(profile, drawn) is None else []
+
+
 def capture(chance, profile, count):
     """Packets one after the other."""
-    events = []
-    for _ in range(count):
-        drawn = transaction(chance, profile)
-        if packets.check(profile, drawn) is None:
-            events += packets.events_of(profile, drawn)
+    events = [event for _ in range(count) for event in packet(chance, profile)]
     return packets.events_text(events)
+
+
+def json_flags(chance, profile):
+    """Flags of `json`."""
+    addresses = [device.address for device in profile.devices] + (profile.ignored or [])
+    return [
+        *chance.choice(([], [], ["--late"], ["--late", "--fixed-vout-mode"])),
+        *chance.choice(([], ["--keep-going"])),
+        *chance.choice(([], [], ["--digits", "2"])),
+        *chance.choice(([], [], [], [], ["--device", "%02x" % chance.choice(addresses)])),
+    ]
 
 
 def is_asked(kind, entry):
@@ -121,12 +135,14 @@ def quantity(chance, form):
 
 
 def rows_under(chance, flag, front, profile):
-    """A capture, lines and requests."""
+    """Captures, lines and requests."""
     some = capture(chance, profile, chance.randrange(1, 7)).encode()
+    timed = traffic.capture(chance, profile, lambda: packet(chance, profile)).encode()
     drawn = [lines.line_of(transaction(chance, profile)) for _ in range(6)]
     asked = [request_line(chance, profile) for _ in range(12)]
     return [
         (["show", *flag], front + some),
+        (["json", *flag, *json_flags(chance, profile)], front + timed),
         (["build", *flag], front + "\n".join(drawn).encode()),
         (["run", *flag], front + "\n".join(asked).encode()),
     ]
@@ -194,7 +210,8 @@ def spoiled(chance, table, seldom=0.01):
         table[chance.choice(("colour", "m", "code", "name", "address"))] = 1
     for key in list(table):
         if chance.random() < seldom:
-            table[key] = chance.choice((1.5, "x", True, 7, -1, 300, [], {}))
+            others = (1.5, "x", True, 7, -1, 300, [], {}, [7], [1.5, 7], ["00", 7])
+            table[key] = chance.choice(others)
         elif chance.random() < seldom / 3:
             del table[key]
     return table
@@ -209,19 +226,49 @@ def profile_table(chance):
     devices = [device_table(chance) for _ in range(chance.choice((1, 1, 2, 3)))]
     if chance.random() < 0.02:
         devices[-1] = 1
-    return spoiled(chance, {"device": devices})
+    return spoiled(chance, {"ignore": ignored(chance), "device": devices})
+
+
+def ignored(chance):
+    """Addresses that speak no PMBus; seldom one of a device, or one that is no address."""
+    if chance.random() < 0.6:
+        return None
+    drawn = chance.sample(range(0x78, 0x80), chance.randrange(4)) + [0x0C] * chance.randrange(3)
+    if chance.random() < 0.2:
+        drawn += [chance.randrange(0x78), chance.choice((0, 127, 127, chance.choice((128, -1))))]
+    chance.shuffle(drawn)
+    return drawn
 
 
 def device_table(chance):
+    pages = often(chance, 0.5, 1, 2, 2, 2, 3, 3, 3, 32, chance.choice((0, 33, 2, 2)))
+    mode = lambda: chance.choice((0x13, 0x13, 0x1F, 0x0F, 0x40, 0x40, 0x97, 0x20, 0x60))
+    commands = [command_table(chance, pages or 1) for _ in range(chance.randrange(5))]
     return spoiled(chance, {
         "address": chance.choice((*range(0x08, 0x78), 0x07, 0x0C, 0x78)),
         "pec": chance.choice(("off", "on", "optional", "optional")),
-        "pages": often(chance, 0.5, 1, 2, 2, 2, 3, 3, 3, 32, chance.choice((0, 33, 2, 2))),
-        "vout_mode": often(chance, 0.5, 0x13, 0x1F, 0x0F, 0x40, 0x40, 0x97, 0x20, 0x60),
+        "pages": pages,
+        "vout_mode": often(chance, 0.6, mode(), of_each_page(chance, pages or 1, mode)),
         "standard": often(chance, 0.5, True, False),
         "vout_direct": coefficients_table(chance) if chance.random() < 0.3 else None,
-        "command": [command_table(chance) for _ in range(chance.randrange(5))] or None,
+        "command": commands or None,
+        "name": often(chance, 0.4, device_name(chance)),
     })
+
+
+def of_each_page(chance, pages, item):
+    """A list with an item for each page; seldom with one more or one less, or with the same ones."""
+    count = pages + (chance.choice((-1, 1)) if chance.random() < 0.05 else 0)
+    if chance.random() < 0.2:
+        return [item()] * count
+    return [item() for _ in range(count)]
+
+
+def device_name(chance):
+    """A name of a device; seldom one that is too long, or has another character."""
+    length = chance.choice((1, 8, 32, chance.randrange(34)))
+    drawn = "".join(chr(chance.randrange(0x20, 0x7F)) for _ in range(length))
+    return drawn + chance.choice("\t\x1f\x7f\xe9\u2126") if chance.random() < 0.05 else drawn
 
 
 def coefficients_table(chance):
@@ -232,7 +279,7 @@ def coefficients_table(chance):
     })
 
 
-def command_table(chance):
+def command_table(chance, pages):
     """A standard command changed, or one of its own, most often with parts that go together."""
     form = chance.choice(("one", "two", "two", "two", "four", "eight", "block"))
     kind = "raw"
@@ -250,6 +297,8 @@ def command_table(chance):
         "paged": often(chance, 0.5, True, False),
         "initial": often(chance, 0.2, "41" * size, "fF" * size, "4" * size),
     }
+    if command["paged"] and chance.random() < 0.3 or chance.random() < 0.02:
+        command["initial"] = of_each_page(chance, pages, lambda: digits(chance, size))
     if kind == "direct":
         command.update(coefficients_table(chance))
     if chance.random() < 0.4:
@@ -259,7 +308,15 @@ def command_table(chance):
         for key in ("write", "read", "call", "kind", "paged", "exponent", "initial"):
             if chance.random() < 0.8:
                 command[key] = None
+        if chance.random() < 0.2:
+            size = 1 if "STATUS_CML" == command["name"] else 2
+            command["initial"] = of_each_page(chance, pages, lambda: digits(chance, size))
     return spoiled(chance, command)
+
+
+def digits(chance, size):
+    """What a register of so many bytes begins with."""
+    return chance.choice(("41", "fF", "00", "18", "7e")) * size
 
 
 FORMATS = """linear11 linear11:-3 linear11:15 ulinear16:-9 slinear16:-16 vout:17 direct:3,2,1

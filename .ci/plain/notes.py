@@ -11,9 +11,7 @@ class Context:
     def __init__(self, profile):
         self.profile = profile
         self.pages = {device.address: 0 for device in profile.devices}
-        self.modes = {
-            device.address: [device.vout_mode] * device.pages for device in profile.devices
-        }
+        self.modes = {device.address: list(device.modes) for device in profile.devices}
 
     def mode(self, address):
         """The VOUT_MODE of the selected page, or the one that all selected pages share."""

@@ -1,13 +1,15 @@
-"""What `json` writes of a capture, by docs/text.md: an object a line."""
+"""What `json` writes of a capture, by docs/json.md: an object a line."""
 
-import re
-from typing import NamedTuple
+from functools import partial
+from typing import NamedTuple, Optional
 
 from . import numbers, packets, reading
-from .packets import ACK, ALERT, Alert, Call, NoAlert, Read, Refused, Write
+from .known import UNKNOWN, Known
+from .packets import ACK, ALERT, START, STOP, Alert, Call, NoAlert, Refused, Write
 from .profiles import ALL_PAGES, bit_name
+from .times import last_time
 
-UNKNOWN = "unknown"
+COUNTED = ("writes", "reads", "calls", "refused", "refusals")
 EVENTS = {"S": "Start", "P": "Stop", "A": "Ack", "N": "Nack"}
 
 
@@ -53,60 +55,6 @@ def rounded(number, places):
     return ("-" if units < 0 else "") + whole + ("." + part if part else "")
 
 
-# What is known of PAGE and VOUT_MODE
-
-class Known:
-    """PAGE of each device, and VOUT_MODE of each of its pages, as far as they are known: None where
-    they are not."""
-
-    def __init__(self, profile, choice):
-        self.profile = profile
-        self.pages = {}
-        self.modes = {}
-        for device in profile.devices:
-            mode = None if choice.late and not choice.fixed else device.vout_mode
-            self.pages[device.address] = None if choice.late else 0
-            self.modes[device.address] = [mode] * device.pages
-
-    def mode(self, address):
-        """The VOUT_MODE of what is selected, "unknown", or "page" where there is none."""
-        page, modes = self.pages[address], self.modes[address]
-        told = {mode for mode in modes if mode is not None}
-        if page is None:
-            return modes[0] if len(told) == 1 and None not in modes else UNKNOWN
-        if page == ALL_PAGES:
-            if len(told) > 1:
-                return "page"
-            return UNKNOWN if None in modes else modes[0]
-        if page >= len(modes):
-            return "page"
-        return UNKNOWN if modes[page] is None else modes[page]
-
-    def observe(self, transaction):
-        if isinstance(transaction, (Write, Refused)):
-            for part in transaction.parts:
-                self.tell(part.address, part.code, part.data)
-        if isinstance(transaction, Read):
-            self.tell(transaction.address, transaction.code, transaction.reply)
-
-    def tell(self, address, code, data):
-        if code == 0x00:
-            self.pages[address] = data[0]
-        if code == 0x20:
-            self.tell_mode(address, data[0])
-
-    def tell_mode(self, address, mode):
-        page, modes = self.pages[address], self.modes[address]
-        if not self.profile.device(address).entry(0x20).paged or page == ALL_PAGES:
-            modes[:] = [mode] * len(modes)
-        elif page is None and len(modes) > 1:
-            modes[:] = [one if one == mode else None for one in modes]
-        elif page is None:
-            modes[0] = mode
-        elif page < len(modes):
-            modes[page] = mode
-
-
 # Objects: lists of keys with their texts
 
 class Objects:
@@ -115,9 +63,10 @@ class Objects:
     def __init__(self, profile, choice):
         self.profile = profile
         self.choice = choice
-        self.known = Known(profile, choice)
+        self.known = Known(profile, choice.late, choice.fixed)
+        self.told = Known(profile, is_late=True)
         self.counts = {}
-        self.packets = self.refusals = self.bad_tokens = 0
+        self.packets = self.refusals = self.bad_tokens = self.others = 0
         self.lines = []
 
     def put(self, device, members):
@@ -126,11 +75,17 @@ class Objects:
             self.lines.append("{%s}\n" % ",".join('"%s":%s' % member for member in members))
 
     def count(self, address, what):
-        counts = self.counts.setdefault(address, dict.fromkeys(
-            ("writes", "reads", "calls", "refused", "refusals"), 0))
+        counts = self.counts.setdefault(address, dict.fromkeys((*COUNTED, "others"), 0))
         counts[what] += 1
 
     # members
+
+    def named(self, address):
+        """An address, and the name of the device there."""
+        device = self.profile.device(address)
+        name = device.name if device else None
+        members = [("device", digits_of([address]))]
+        return members if name is None else members + [("name", escaped(name.encode()))]
 
     def command(self, address, code):
         """Code, name, and the page of a paged command."""
@@ -163,8 +118,12 @@ class Objects:
             number = numbers.decode(self.number_format(device, entry), word)
         except numbers.Fault as fault:
             return [("raw", string(str(fault)))]
-        return [("value", string(numbers.text(number))),
-                ("number", rounded(number, self.choice.digits))]
+        members = [("value", string(numbers.text(number))),
+                   ("number", rounded(number, self.choice.digits))]
+        is_vout = entry.kind in ("vout", "vout_signed")
+        if is_vout and self.told.mode(address) == UNKNOWN:
+            members.append(("mode", string("assumed")))
+        return members
 
     def number_format(self, device, entry):
         if entry.kind in ("vout", "vout_signed"):
@@ -195,15 +154,15 @@ class Objects:
                 self.refused(where(starts[len(transaction.parts)]), count, transaction)
         elif isinstance(transaction, Alert):
             device = transaction.byte // 2
-            self.put(device, where(starts[0]) + [
-                ("kind", string("alert")), ("device", digits_of([device])),
-                ("byte", digits_of([transaction.byte])), ("pec", flag(transaction.pec))])
+            self.put(device, where(starts[0]) + [("kind", string("alert"))] + self.named(device)
+                     + [("byte", digits_of([transaction.byte])), ("pec", flag(transaction.pec))])
         elif isinstance(transaction, NoAlert):
             self.put(None, where(starts[0]) + [("kind", string("alert")), ("device", "null")])
         else:
             self.reply(where(starts[0]), transaction)
         self.packets += 1
         self.known.observe(transaction)
+        self.told.observe(transaction)
 
     def part_members(self, part, count):
         return [("part", str(part)), ("parts", str(count))] if count > 1 else []
@@ -212,7 +171,7 @@ class Objects:
         self.count(part.address, "writes")
         self.put(part.address, place + [("kind", string("write"))]
                  + self.part_members(number, count)
-                 + [("device", digits_of([part.address]))] + self.command(part.address, part.code)
+                 + self.named(part.address) + self.command(part.address, part.code)
                  + [("bytes", digits_of(part.data)), ("pec", flag(part.pec))]
                  + self.meaning(part.address, part.code, part.data, True))
 
@@ -220,8 +179,8 @@ class Objects:
         address, code = transaction.address, transaction.code
         is_call = isinstance(transaction, Call)
         self.count(address, "calls" if is_call else "reads")
-        members = place + [("kind", string("call" if is_call else "read")),
-                           ("device", digits_of([address]))] + self.command(address, code)
+        members = place + [("kind", string("call" if is_call else "read"))]
+        members += self.named(address) + self.command(address, code)
         if is_call:
             members += [("sent", digits_of(transaction.data))]
         members += [("reply" if is_call else "bytes", digits_of(transaction.reply)),
@@ -234,9 +193,9 @@ class Objects:
         address, sent = refused.address, list(refused.sent)
         self.count(address, "refused")
         what = {0: "address", 1: "code"}.get(len(sent), "byte")
-        members = place + [("kind", string("refused"))] + self.part_members(count, count) + [
-            ("device", digits_of([address])),
-            ("refused", string("read address" if refused.at_read else what))]
+        members = place + [("kind", string("refused"))] + self.part_members(count, count)
+        members += self.named(address)
+        members += [("refused", string("read address" if refused.at_read else what))]
         members += self.command(address, sent[0]) if sent else []
         members += [("sent", digits_of(sent))]
         if not refused.at_read and len(sent) > 1:
@@ -267,7 +226,7 @@ class Objects:
             ("kind", string("refusal")), ("reason", string(refusal.reason)),
             ("expected", array(refusal.expected)), ("got", self.got(refusal.got))]
         if device is not None:
-            members.append(("device", digits_of([device])))
+            members += self.named(device)
             self.count(device, "refusals")
         if written:
             address, sent = written[-1][0] // 2, written[-1][1:]
@@ -287,14 +246,43 @@ class Objects:
             return "null"
         return digits_of([event]) if reading.is_byte(event) else string(EVENTS[event])
 
+    # what is neither
+
+    def other(self, place, address):
+        """A packet to an address that speaks no PMBus."""
+        self.others += 1
+        self.count(address, "others")
+        self.put(address, place + [("kind", string("other")), ("device", digits_of([address]))])
+
+    def bad_token(self, place, word):
+        self.bad_tokens += 1
+        self.put(None, place + [("kind", string("bad_token")), ("word", escaped(word[:32]))])
+
     # the end
 
     def end(self):
         for address in sorted(self.counts):
-            self.put(address, [("kind", string("device")), ("device", digits_of([address]))]
-                     + [(key, str(count)) for key, count in self.counts[address].items()])
-        self.put(None, [("kind", string("end")), ("packets", str(self.packets)),
-                        ("refusals", str(self.refusals)), ("bad_tokens", str(self.bad_tokens))])
+            self.put(address, [("kind", string("device"))] + self.named(address)
+                     + self.counted(COUNTED, self.counts[address]))
+        self.put(None, [("kind", string("end"))]
+                 + self.counted(("packets", "refusals", "bad_tokens"), vars(self)))
+
+    def counted(self, keys, counts):
+        """Counts by their keys, the others last where the profile ignores addresses."""
+        keys += () if self.profile.ignored is None else ("others",)
+        return [(key, str(counts[key])) for key in keys]
+
+
+# A capture
+
+class Span(NamedTuple):
+    """Events up to and with a STOP, or the last ones, after so many others."""
+    first: int
+    events: list
+    time: Optional[bytes]
+
+    def is_open(self):
+        return self.events[-1] != STOP
 
 
 def place_of(text, at):
@@ -302,6 +290,13 @@ def place_of(text, at):
     before = text[:at]
     line = before.count(b"\n") + 1
     return [("line", str(line)), ("column", str(at - (before.rfind(b"\n") + 1) + 1))]
+
+
+def head(text, starts, first, time, at):
+    """The members that say which event an object begins with, where its word stands, and when it came.
+    The first of the words has a number."""
+    members = [("at", str(at))] + place_of(text, starts[at - first])
+    return members if time is None else members + [("time", string(time.decode()))]
 
 
 def json(profile, given, choice):
@@ -316,36 +311,62 @@ def json(profile, given, choice):
 
 def read_on(objects, profile, given, choice, first, begin):
     """Reads up to the first bad word or the end: how many events that makes, and where to go on."""
-    events, places, bad, behind = [], [], None, begin
+    events, bounds, bad = words_from(given, begin)
+    spans = spans_of(given, events, [(begin, begin)] + bounds, first)
+    starts = [start for start, _ in bounds] + [bounds[-1][1] if bounds else begin]
+    for span in spans:
+        where = partial(head, given, starts, first, span.time)
+        read_span(objects, profile, span, bad is None, where)
+    first += len(events)
+    if bad is None:
+        return first, None
+    word, at = bad
+    time = spans[-1].time if spans and spans[-1].is_open() else None
+    objects.bad_token(head(given, [at], first, time, first), word)
+    line_end = given.find(b"\n", at)
+    return first, line_end + 1 if choice.keep_going and line_end >= 0 else None
+
+
+def words_from(given, begin):
+    """The events of a text from a place on, up to its first word that is none; where each word begins
+    and ends; and that word with its place."""
+    events, bounds = [], []
     for word, at in reading.words(given[begin:]):
         event = reading.event_of(word)
         if event is None:
-            bad = (word, begin + at)
-            break
+            return events, bounds, (word, begin + at)
         events.append(event)
-        places.append(begin + at)
-        behind = begin + at + len(word)
+        bounds.append((begin + at, begin + at + len(word)))
+    return events, bounds, None
 
-    def where(at):
-        byte = places[at - first] if at - first < len(places) else end_of_words(given[:behind])
-        return [("at", str(at))] + place_of(given, byte)
 
-    for outcome in reading.outcomes(profile, events, bad is None, first):
+def spans_of(given, events, bounds, first):
+    """The spans of events, with the times between them. `bounds` begins with where reading begins."""
+    spans = []
+    for i, event in enumerate(events):
+        if not spans or not spans[-1].is_open():
+            time = last_time(given, bounds[i][1], bounds[i + 1][0])
+            spans.append(Span(first + i, [], time))
+        spans[-1].events.append(event)
+    return spans
+
+
+def read_span(objects, profile, span, ends, where):
+    """The objects of a span. Where the events end with the capture, one that is open is cut."""
+    address = other_address(profile, span.events)
+    if address is not None:
+        objects.other(where(span.first + 1), address)
+        return
+    for outcome in reading.outcomes(profile, span.events, ends, span.first):
         if isinstance(outcome, reading.Packet):
             objects.packet(outcome.starts, outcome.transaction, where)
         else:
             objects.refusal(outcome, where(outcome.at))
-    first += len(events)
-    if bad is None:
-        return first, None
-    objects.bad_tokens += 1
-    objects.put(None, [("at", str(first))] + place_of(given, bad[1])
-                + [("kind", string("bad_token")), ("word", escaped(bad[0][:32]))])
-    line_end = given.find(b"\n", bad[1])
-    return first, line_end + 1 if choice.keep_going and line_end >= 0 else None
 
 
-def end_of_words(text):
-    """Behind the last word."""
-    found = reading.words(text)
-    return found[-1][1] + len(found[-1][0]) if found else 0
+def other_address(profile, events):
+    """The address that a packet is to, where it speaks no PMBus; else None."""
+    if len(events) < 2 or events[0] != START or not reading.is_byte(events[1]):
+        return None
+    address = events[1] // 2
+    return address if address in (profile.ignored or ()) else None

@@ -4,7 +4,7 @@ is read is not said here."""
 
 import os
 import re
-from typing import NamedTuple, Optional
+from typing import NamedTuple, Optional, Union
 
 from .numbers import direct
 
@@ -22,20 +22,29 @@ class Entry(NamedTuple):
     paged: bool = False
     coefficients: Optional[tuple] = None
     exponent: Optional[int] = None
-    initial: Optional[bytes] = None
+    initial: Union[bytes, list, None] = None  # a list has an item for each page
 
     def form_held(self):
         """The form of the register, or None where there is none (docs/devices.md)."""
         return self.read or (self.write if self.write != "zero" else None)
+
+    def initial_on(self, page):
+        """The bytes that the profile gives the register of a page, or None."""
+        return self.initial[page] if isinstance(self.initial, list) else self.initial
 
 
 class Device(NamedTuple):
     address: int
     pec: str
     entries: dict  # by their codes, in their order
-    pages: int = 1
-    vout_mode: int = 0x17
+    modes: list  # VOUT_MODE at first, of each page
     vout_direct: Optional[tuple] = None
+    name: Optional[str] = None
+
+    @property
+    def pages(self):
+        """How many there are."""
+        return len(self.modes)
 
     def entry(self, code):
         return self.entries.get(code)
@@ -43,6 +52,7 @@ class Device(NamedTuple):
 
 class Profile(NamedTuple):
     devices: tuple
+    ignored: Optional[list] = None  # each address once, in order; None where there is no `ignore`
 
     def device(self, address):
         return next((one for one in self.devices if one.address == address), None)
@@ -86,13 +96,13 @@ def standard(name, **changes):
     return next(entry for entry in STANDARD if entry.name == name)._replace(**changes)
 
 
-def device(address, pec, *commands, base=STANDARD, **others):
+def device(address, pec, *commands, base=STANDARD, modes=(0x17,), **others):
     """A device with the commands of a base and its own: one takes the place of the one with its
     code, a new one goes last."""
     entries = {entry.code: entry for entry in base}
     for command in commands:
         entries[command.code] = command
-    return Device(address, pec, entries, **others)
+    return Device(address, pec, entries, list(modes), **others)
 
 
 def example(path):
@@ -107,7 +117,7 @@ SAMPLE = Profile((
         0x58, "optional",
         standard("READ_VIN", initial=b"\x00\xd3"),
         Entry(0xD0, "RATIO", "two", "two", kind="direct", coefficients=direct(3, 2, 1)),
-        pages=2, vout_mode=0x17,
+        modes=[0x17, 0x17],
     ),
     device(0x59, "off"),
     device(0x5A, "on"),
@@ -120,7 +130,7 @@ BOARD = Profile((
         standard("TON_DELAY", exponent=-2),
         standard("TON_RISE", exponent=-2),
         Entry(0xD7, "MFR_IOUT_PEAK", read="two", kind="linear11", paged=True),
-        pages=2, vout_mode=0x13,
+        modes=[0x13, 0x13],
     ),
     device(
         0x10, "off",
@@ -131,16 +141,29 @@ BOARD = Profile((
 ))
 
 LTC3880_TEXT = example("profiles/ltc3880.toml")
-LTC3880 = Profile((device(0x4F, "optional", pages=2, vout_mode=0x14),))
+LTC3880 = Profile((device(0x4F, "optional", modes=[0x14, 0x14]),))
 
 PFE1100_TEXT = example("profiles/pfe1100.toml")
-PFE1100 = Profile((device(0x58, "optional", vout_mode=0x16),))
+PFE1100 = Profile((device(0x58, "optional", modes=[0x16]),))
 
 BENCH_TEXT = example("transactions/bench_setup.toml")
 BENCH = Profile((
-    device(0x4F, "optional", pages=2, vout_mode=0x14),
+    device(0x4F, "optional", modes=[0x14, 0x14]),
     device(0x20, "off"),
 ))
+
+RAILS_TEXT = example("profiles/two_rails.toml")
+RAILS = Profile(
+    (
+        device(
+            0x40, "optional",
+            standard("VOUT_COMMAND", initial=[b"\x33\x13", b"\x9a\x69"]),
+            standard("READ_VOUT", initial=[b"\x33\x13", b"\x9a\x69"]),
+            modes=[0x14, 0x13], name="U7 CORE/IO",
+        ),
+    ),
+    ignored=[0x48, 0x50],
+)
 
 # Commands of every form, with their own kinds and pages.
 ODD_TEXT = b"""
@@ -193,7 +216,7 @@ ODD = Profile((
         Entry(0xE4, "CMD_e4", "block", "block", "block", initial=b"AB", paged=True),
         standard("STATUS_CML", paged=False),
         Entry(0xE5, "CMD_e5", call="two", paged=True),
-        pages=3, vout_mode=0x40, vout_direct=direct(-7, 5, -1),
+        modes=[0x40, 0x40, 0x40], vout_direct=direct(-7, 5, -1),
     ),
     device(
         0x11, "on",
@@ -209,6 +232,78 @@ ODD = Profile((
     ),
 ))
 
+# Pages that begin unlike each other, names of all characters, and addresses that are ignored.
+UNLIKE_TEXT = b"""
+ignore = [0x50, 0x48, 0x0c, 0x50, 0, 127]
+
+[[device]]
+address = 0x20
+pec = "optional"
+pages = 3
+vout_mode = [0x17, 0x40, 0x97]
+vout_direct = { m = 2, b = -1, r = 1 }
+name = ' !"#$%&\\~'
+command = [
+    { name = "VOUT_COMMAND", initial = ["0018", "0102", "ffff"] },
+    { name = "STATUS_CML", initial = ["00", "Ff", "01"] },
+    { name = "READ_VIN", initial = "00d3" },
+    { code = 0xe0, write = "block", read = "block", paged = true, initial = ["", "41", "4243"] },
+    { code = 0xe1, read = "four", paged = true, initial = ["01020304", "00000000", "05060708"] },
+    { code = 0xe2, write = "one", paged = true, initial = ["01", "02", "03"] },
+]
+
+[[device]]
+address = 0x21
+pec = "off"
+pages = 2
+vout_mode = [0x13, 0x1f]
+standard = false
+name = "abcdefghijklmnopqrstuvwxyz 01234"
+command = [{ name = "PAGE" }, { name = "READ_VOUT", initial = ["0010", "1000"] }]
+
+[[device]]
+address = 0x22
+pec = "on"
+pages = 2
+vout_mode = [0x14, 0x14]
+command = [{ name = "VOUT_MODE", paged = false }]
+
+[[device]]
+address = 0x23
+pec = "on"
+vout_mode = [0x1e]
+command = [{ name = "VOUT_MODE", paged = false }, { name = "OPERATION", initial = ["80"] }]
+"""
+UNLIKE = Profile(
+    (
+        device(
+            0x20, "optional",
+            standard("VOUT_COMMAND", initial=[b"\x00\x18", b"\x01\x02", b"\xff\xff"]),
+            standard("STATUS_CML", initial=[b"\x00", b"\xff", b"\x01"]),
+            standard("READ_VIN", initial=b"\x00\xd3"),
+            Entry(0xE0, "CMD_e0", "block", "block", paged=True, initial=[b"", b"A", b"BC"]),
+            Entry(0xE1, "CMD_e1", read="four", paged=True,
+                  initial=[bytes(range(1, 5)), bytes(4), bytes(range(5, 9))]),
+            Entry(0xE2, "CMD_e2", "one", paged=True, initial=[b"\1", b"\2", b"\3"]),
+            modes=[0x17, 0x40, 0x97], vout_direct=direct(2, -1, 1), name=' !"#$%&\\~',
+        ),
+        device(
+            0x21, "off",
+            standard("PAGE"),
+            standard("READ_VOUT", initial=[b"\x00\x10", b"\x10\x00"]),
+            base=(), modes=[0x13, 0x1F], name="abcdefghijklmnopqrstuvwxyz 01234",
+        ),
+        device(0x22, "on", standard("VOUT_MODE", paged=False), modes=[0x14, 0x14]),
+        device(
+            0x23, "on",
+            standard("VOUT_MODE", paged=False),
+            standard("OPERATION", initial=[b"\x80"]),
+            modes=[0x1E],
+        ),
+    ),
+    ignored=[0x00, 0x0C, 0x48, 0x50, 0x7F],
+)
+
 # A device on each of 17 addresses, so that a group can be too long.
 MANY_TEXT = b"".join(
     b"[[device]]\naddress = %d\npec = 'off'\n" % address for address in range(0x10, 0x21)
@@ -217,7 +312,8 @@ MANY = Profile(tuple(device(address, "off") for address in range(0x10, 0x21)))
 
 KNOWN = {
     SAMPLE_TEXT: SAMPLE, BOARD_TEXT: BOARD, LTC3880_TEXT: LTC3880, PFE1100_TEXT: PFE1100,
-    BENCH_TEXT: BENCH, ODD_TEXT: ODD, MANY_TEXT: MANY, b"device = []\n": Profile(()),
+    BENCH_TEXT: BENCH, RAILS_TEXT: RAILS, ODD_TEXT: ODD, UNLIKE_TEXT: UNLIKE, MANY_TEXT: MANY,
+    b"device = []\n": Profile(()), b"ignore = []\ndevice = []\n": Profile((), ignored=[]),
 }
 
 # Profiles with a mistake, and how it is told.
@@ -252,4 +348,19 @@ FAULTS = {
         "CodeTwice in device 0 command 1",
     COMMAND + b"name = 'VIN_ON'\nexponent = 16\n": "BadValue in device 0 command 0",
     COMMAND + b"name = 'MFR_ID'\nexponent = 0\n": "UnknownKey in device 0 command 0",
+    b"ignore = [0x50]\n": "MissingKey",
+    b"ignore = 0x50\n" + ONE: "WrongType",
+    b"ignore = [0x50, '0x48']\n" + ONE: "WrongType",
+    b"ignore = [0x80]\n" + ONE: "BadValue",
+    b"ignore = [0x48, 0x10]\n" + ONE: "BadValue in device 0",
+    ONE + b"vout_mode = [256]\n": "BadValue in device 0",
+    ONE + b"pages = 2\nvout_mode = [0x14]\n": "BadValue in device 0",
+    ONE + b"pages = 2\nvout_mode = [0x14, 0x13]\n"
+    b"command = [{ name = 'VOUT_MODE', paged = false }]\n": "BadValue in device 0",
+    ONE + b"name = ''\n": "BadName in device 0",
+    ONE + b"name = 1\n": "WrongType in device 0",
+    COMMAND + b"name = 'READ_VIN'\ninitial = ['00d3', '00d3']\n":
+        "BadInitial in device 0 command 0",
+    COMMAND + b"name = 'MFR_ID'\ninitial = ['41']\n": "BadInitial in device 0 command 0",
+    COMMAND + b"name = 'READ_VIN'\ninitial = [1]\n": "WrongType in device 0 command 0",
 }

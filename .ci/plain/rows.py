@@ -84,6 +84,18 @@ S b0 A 00 A 01 A zz P
 S b0 A 03 A 47 A P S b2 A 03 A S 40 N P
 S b4 A 00 A ff A b2 A P S b4 A 21 A 00 A 18"""
 
+# Captures with times, and ones whose VOUT_MODE is told and untold; / ends a line.
+TIMED = """
+# 0.000025 s/S b0 A 03 A P/# 2026-01-25T15:30:08.5Z\r/S b0 A 03 A S b2 A 03 A P S b2 A 03 A P/
+# 1 s/# 12/# 2 s /#  2 s/ # 2 s/# 2.0.0 s/# . s/S b0 A/# 3 s/03 A P # 4 s/S b2 A 03 A P/
+# 00000000000000000000000000000000000000.1 s/# 00000000000000000000000000000000000000.02 s/S b2 A 03 A P
+# 2026-01-25T15.........................../# 2026-01-25T15............................/S b2 A 03 A P
+# 1 s/S b0 A 03 A 47 A/# 2 s/x/# 3 s/A x/# 4 s/P x/# 5 s/x/S b0 A 03 A P/# 6 s/S b0
+S b2 A 21 A 00 A 18 A P/S b2 A 20 A 14 A P/S b2 A 21 A 00 A 18 A P/S b2 A 12 A P/S b2 A 21 A 00 A 18 A P
+S b0 A 00 A ff A P/S b0 A 20 A 14 A P/S b0 A 05 A 03 A 00 A 20 A 13 A P/S b0 A 8b A S b1 A 00 A 18 N P
+S b0 A 00 A 01 A P/S b0 A 20 A 14 A P/S b2 A 03 A S b0 A 16 A P/S b0 A 22 A 00 A 18 A P
+"""
+
 # Transaction lines under the sample profile.
 TRANSACTIONS = """
 write 58 21 00 18 pec
@@ -241,6 +253,47 @@ write 10 00 03 + 77 03; read 10 7e; read 10 00
 """
 
 
+# The same after profiles whose pages begin unlike each other, and that ignore addresses.
+UNLIKE_CAPTURES = """
+S 40 A 8b A S 41 A 00 A 18 N P S 40 A 00 A 01 A P S 40 A 8b A S 41 A 00 A 18 N P
+S 40 A 00 A 02 A P S 40 A 21 A 00 A 18 A P S 40 A 20 A 13 A P S 40 A 21 A 00 A 18 A P
+S 40 A 00 A ff A P S 40 A 21 A 00 A 18 A P S 40 A 20 A 17 A P S 40 A 21 A 00 A 18 A P
+S 40 A 20 A S 41 A 14 N P S 40 A 22 A ff A ff A P S 40 A 00 A 01 A P S 40 A 22 A ff A ff A P
+S 42 A 8b A S 43 A 00 A 10 N P S 42 A 00 A 01 A P S 42 A 8b A S 43 A 00 A 10 N P
+S 44 A 00 A 01 A 2a A P S 44 A 20 A 13 A fa A P S 44 A 21 A 00 A 10 A 9b A P
+S 44 A 00 A 01 A 2a A P S 44 A 21 A 00 A 10 A 9b A P
+S 46 A 21 A 04 A 00 A 93 A P
+S 90 A 00 A S 91 A 19 A 80 N P S a0 N P S 40 A 03 A P S a0 A 00 A 10 A 4d A P S fe A 01 A P
+S 19 A 40 N P S 91 A 19 N P S 40 A 8b A S 91 N P
+S 40 A 03 A S 90 A 01 A P S 40 A 03 A S 90 N P
+"""
+UNLIKE_LINES = """
+write 20 21 00 18 + 21 00 01
+write 21 20 13
+read 23 01 : 80 pec
+refused 48
+refused 50 00
+alert a0
+"""
+UNLIKE_REQUESTS = """
+get 20 21; write 20 00 01; get 20 21; write 20 00 02; get 20 21; read 20 21; read 20 20; set 20 21 1
+set 20 21 3; write 20 00 01; set 20 21 3; get 20 21; write 20 00 ff; set 20 21 3; read 20 7e
+read 20 7e; write 20 00 01; read 20 7e; write 20 03; read 20 7e; write 20 00 02; read 20 7e
+read 20 88; write 20 00 02; read 20 88; read 20 e0; read 20 e1; write 20 00 01; read 20 e0
+write 20 00 ff; write 20 20 17; set 20 21 3; write 20 00 02; get 20 21; write 20 00 01; get 20 21
+write 20 00 01; write 20 e0 42; read 20 e0; write 20 00 02; read 20 e0; write 20 00 00; read 20 e0
+write 20 00 ff; write 20 7e 81; write 20 00 01; read 20 7e; write 20 00 02; read 20 7e
+get 21 8b; write 21 00 01; get 21 8b; read 21 20; read 21 00
+set 22 21 1 pec; write 22 00 01 pec; write 22 20 13 pec; set 22 21 1 pec; read 22 20 pec
+read 23 01 pec; read 23 20 pec; set 23 21 1 pec; get 23 21 pec
+write 48 00; read 50 00; get 20 8b
+"""
+RAILS_REQUESTS = """
+get 40 8b; get 40 21; write 40 00 01; get 40 8b; get 40 21; set 40 21 3.3; get 40 21; read 40 20
+write 40 00 ff; set 40 21 1; write 40 20 14; set 40 21 1; write 40 00 00; get 40 21; read 40 8b
+"""
+
+
 def lines_of(text):
     return [line.encode() for line in text.split("\n") if line]
 
@@ -261,11 +314,16 @@ def rows():
 
 
 def json_rows():
-    """A capture under each flag of `json`."""
+    """Captures under the flags of `json`."""
     flags = [[], ["--late"], ["--late", "--fixed-vout-mode"], ["--keep-going"], ["--digits", "0"],
              ["--digits", "12"], ["--digits", "2", "--late"], ["--device", "58"],
              ["--device", "59", "--device", "20"], ["--keep-going", "--late", "--device", "5a"]]
-    return [(["json", "--sample"] + words, JSON_CAPTURE.encode()) for words in flags]
+    found = [(["json", "--sample"] + words, JSON_CAPTURE.encode()) for words in flags]
+    for capture in lines_of(TIMED):
+        text = capture.replace(b"/", b"\n")
+        for words in ([], ["--keep-going"], ["--late"], ["--late", "--fixed-vout-mode"]):
+            found.append((["json", "--sample"] + words, text))
+    return found
 
 
 def conversions():
@@ -346,9 +404,22 @@ def rows_behind_profiles():
     found += [(["build"], odd + line) for line in lines_of(ODD_LINES)]
     for requests in lines_of(ODD_REQUESTS):
         found.append((["run"], odd + requests.replace(b"; ", b"\n")))
+    unlike = profiles.UNLIKE_TEXT + b"%%\n"
+    for capture in lines_of(UNLIKE_CAPTURES):
+        found += [([task], unlike + capture) for task in ("show", "check", "json")]
+        found.append((["json", "--late"], unlike + capture))
+        found.append((["json", "--late", "--fixed-vout-mode"], unlike + capture))
+    found += [(["build"], unlike + line) for line in lines_of(UNLIKE_LINES)]
+    rails = profiles.RAILS_TEXT + b"%%\n"
+    for front, lists in ((unlike, UNLIKE_REQUESTS), (rails, RAILS_REQUESTS)):
+        for requests in lines_of(lists):
+            found.append((["run"], front + requests.replace(b"; ", b"\n")))
+    capture = example("profiles/two_rails.txt")
+    found += [([task], rails + capture) for task in ("show", "check", "json")]
     nobody = b"device = []\n%%\n"
     found.append((["show"], nobody + b"S 40 N P S 19 A b0 N P S 40 A P"))
     found.append((["build"], nobody + b"write 58 03\nrefused 58\nalert none\n"))
+    found.append((["json"], b"ignore = []\n" + nobody + b"S 40 N P S 40 A P"))
     board = profiles.BOARD_TEXT + b"%%\n" + example("sessions/power_up.txt")
     found += [(["show"], board), (["json"], board), (["json", "--late"], board)]
     found.append((["run"], profiles.BOARD_TEXT + b"%%\n" + example("requests/bring_up.txt")))

@@ -15,7 +15,7 @@ WORDS = {
     "call": ("none", "two", "block"),
 }
 KINDS = ("raw", "linear11", "vout", "vout_signed", "direct", "status")
-DEVICE_KEYS = ("address", "pec", "pages", "vout_mode", "standard", "vout_direct", "command")
+DEVICE_KEYS = ("address", "pec", "pages", "vout_mode", "standard", "vout_direct", "command", "name")
 COMMAND_KEYS = ("code", "name", *WORDS, "kind", "m", "b", "r", "exponent", "paged", "initial")
 
 
@@ -37,18 +37,29 @@ def value_of(table, key, kind, otherwise=None):
 
 def profile_of(table):
     """The profile. A fault is told with its place after it."""
-    need(set(table) <= {"device"}, "UnknownKey")
+    need(set(table) <= {"device", "ignore"}, "UnknownKey")
     need("device" in table, "MissingKey")
     array = value_of(table, "device", list)
     need(len(array) <= 64, "TooManyDevices")
+    ignored = ignored_of(table)
     devices = []
     for i, one in enumerate(array):
         place = "in device %d" % i
-        device = placed(place, device_of, one, devices)
+        device = placed(place, device_of, one, devices, ignored or [])
         for j, command in enumerate(one.get("command", [])):
             device = placed("%s command %d" % (place, j), with_command, device, one, j, command)
+        placed(place, modes_go_together, device)
         devices.append(device)
-    return Profile(tuple(devices))
+    return Profile(tuple(devices), ignored)
+
+
+def ignored_of(table):
+    """The addresses that speak no PMBus, or None without the key."""
+    array = value_of(table, "ignore", list)
+    for address in array or []:
+        need(type(address) is int, "WrongType")
+        need(0 <= address <= 127, "BadValue")
+    return None if array is None else sorted(set(array))
 
 
 def placed(place, rule, *given):
@@ -58,27 +69,48 @@ def placed(place, rule, *given):
         raise Fault("%s %s" % (fault, place)) from None
 
 
-def device_of(table, before):
+def device_of(table, before, ignored):
     """A device by its own keys, with the standard commands or none."""
     known_keys(table, DEVICE_KEYS)
     need("address" in table, "MissingKey")
     address = value_of(table, "address", int)
     need(0x08 <= address <= 0x77 and address != 0x0C, "BadAddress")
     need(address not in [device.address for device in before], "AddressTwice")
+    need(address not in ignored, "BadValue")
     need("pec" in table, "MissingKey")
     pec = value_of(table, "pec", str)
     need(pec in ("off", "on", "optional"), "BadValue")
     pages = value_of(table, "pages", int, 1)
     need(1 <= pages <= 32, "BadPages")
-    vout_mode = value_of(table, "vout_mode", int, 0x17)
-    need(0 <= vout_mode <= 255, "BadValue")
+    modes = modes_of(table.get("vout_mode", 0x17), pages)
     entries = CODED if value_of(table, "standard", bool, True) else {}
     vout_direct = None
     if "vout_direct" in table:
         known_keys(table["vout_direct"], ("m", "b", "r"))
         vout_direct = coefficients(table["vout_direct"])
     value_of(table, "command", list)
-    return Device(address, pec, entries, pages, vout_mode, vout_direct)
+    name = value_of(table, "name", str)
+    need(name is None or re.fullmatch("[ -~]{1,32}", name), "BadName")
+    return Device(address, pec, entries, modes, vout_direct, name)
+
+
+def modes_of(value, pages):
+    """VOUT_MODE at first, of each page: an integer is that of all pages, an array has an item for
+    each."""
+    items = value if type(value) is list else [value]
+    for item in items:
+        need(type(item) is int, "WrongType")
+        need(0 <= item <= 255, "BadValue")
+    if type(value) is int:
+        return [value] * pages
+    need(len(value) == pages, "BadValue")
+    return value
+
+
+def modes_go_together(device):
+    """A VOUT_MODE that is not paged is one for all pages."""
+    entry = device.entry(0x20)
+    need(entry is None or entry.paged or len(set(device.modes)) == 1, "BadValue")
 
 
 def coefficients(table):
@@ -98,7 +130,7 @@ def with_command(device, device_table, place, table):
     need(entry.code not in before, "CodeTwice")
     need(goes_together(entry), "BadForm")
     if entry.initial is not None:
-        entry = entry._replace(initial=initial_of(entry))
+        entry = entry._replace(initial=initial_of(entry, device.pages))
     return device._replace(entries={**device.entries, entry.code: entry})
 
 
@@ -136,7 +168,9 @@ def command_of(table):
     need(exponent is None or kind == "linear11", "UnknownKey")
     need(exponent is None or -16 <= exponent <= 15, "BadValue")
     paged = value_of(table, "paged", bool, entry.paged)
-    initial = value_of(table, "initial", str)
+    initial = table.get("initial")
+    texts = initial if type(initial) is list else [initial]
+    need("initial" not in table or all(type(text) is str for text in texts), "WrongType")
     return entry._replace(exponent=exponent, paged=paged, initial=initial)
 
 
@@ -162,14 +196,28 @@ def goes_together(entry):
     return entry.kind == "raw" or form == "two"
 
 
-def initial_of(entry):
-    """The bytes that a command holds at first."""
+def initial_of(entry, pages):
+    """The bytes that a command holds at first: the same on each page, or a list."""
     form = entry.form_held()
     need(entry.code not in (0x00, 0x20) and form, "BadInitial")
-    need(re.fullmatch("([0-9a-fA-F]{2})*", entry.initial), "BadInitial")
-    held = bytes.fromhex(entry.initial)
+    if isinstance(entry.initial, str):
+        return bytes_of(form, entry.initial)
+    need(entry.paged and len(entry.initial) == pages, "BadInitial")
+    return [bytes_of(form, text) for text in entry.initial]
+
+
+def bytes_of(form, text):
+    """The bytes of a form that a text has."""
+    need(re.fullmatch("([0-9a-fA-F]{2})*", text), "BadInitial")
+    held = bytes.fromhex(text)
     need(len(held) <= 255 if form == "block" else len(held) == SIZES[form], "BadInitial")
     return held
+
+
+def toml_text(text):
+    """A text as TOML, with escapes for what can't stand in it."""
+    plain = lambda char: " " <= char <= "~" and char not in '"\\'
+    return '"%s"' % "".join(char if plain(char) else "\\u%04x" % ord(char) for char in text)
 
 
 def toml(value):
@@ -180,7 +228,7 @@ def toml(value):
         return "{ %s }" % ", ".join("%s = %s" % (key, toml(value[key])) for key in value)
     if isinstance(value, list):
         return "[ %s ]" % ", ".join(toml(one) for one in value)
-    return '"%s"' % value if isinstance(value, str) else str(value)
+    return toml_text(value) if isinstance(value, str) else str(value)
 
 
 def text_of(table):

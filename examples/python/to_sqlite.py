@@ -1,5 +1,5 @@
-"""Captures into SQLite: each packet is a row, with the exact value as a text, the nearest number, and
-the whole object.
+"""Captures into SQLite: each packet is a row, with its time, the exact value as a text, the nearest
+number, whether its VOUT_MODE is assumed, and the whole object.
 
     pip install ./python && python3 examples/python/to_sqlite.py
     python3 examples/python/to_sqlite.py PROFILE CAPTURE DATABASE
@@ -15,7 +15,9 @@ import sys
 import pmb
 
 SESSIONS = os.path.join(os.path.dirname(os.path.abspath(__file__)), os.pardir, "sessions")
-COLUMNS = ("at", "line", "kind", "device", "command", "page", "value", "number")
+COLUMNS = (
+    "at", "line", "time", "kind", "device", "name", "command", "page", "value", "number", "mode"
+)
 
 
 def read(name):
@@ -26,14 +28,15 @@ def read(name):
 def load(database, profile, capture):
     """Puts the packets and refusals of a capture into the table `packets`."""
     database.execute(
-        "CREATE TABLE IF NOT EXISTS packets (at INTEGER, line INTEGER, kind TEXT, device TEXT, "
-        "command TEXT, page, value TEXT, number REAL, object TEXT)"
+        "CREATE TABLE IF NOT EXISTS packets (at INTEGER, line INTEGER, time TEXT, kind TEXT, "
+        "device TEXT, name TEXT, command TEXT, page, value TEXT, number REAL, mode TEXT, object TEXT)"
     )
     rows = (
         [it.get(column) for column in COLUMNS] + [json.dumps(it)]
         for it in pmb.transactions(profile, capture)
     )
-    database.executemany("INSERT INTO packets VALUES (?, ?, ?, ?, ?, ?, ?, ?, ?)", rows)
+    places = ", ".join("?" * (len(COLUMNS) + 1))
+    database.executemany("INSERT INTO packets VALUES (%s)" % places, rows)
     database.commit()
 
 

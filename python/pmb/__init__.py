@@ -544,6 +544,8 @@ def json(
     that PAGE and VOUT_MODE are unknown at first; `fixed_vout_mode`, beside it, that VOUT_MODE is
     the profile's; `keep_going` that reading continues with the next line after a word that is no
     token. Raises a `ProfileError`.
+
+    The text has `packets` and `refusals`; packets to addresses that the profile ignores are neither.
     """
     choice = _choice(devices, digits, late, fixed_vout_mode, keep_going)
     return _text(_JSON, profile, capture, *choice)
@@ -560,7 +562,17 @@ def transactions(
 ) -> Iterator[Dict[str, Any]]:
     """The packets of a capture in their order, and its refusals and bad words: dicts, those of `pmb
     json` without the counts at the end. Arguments and errors are those of `json`. Each is made when
-    it is asked for, from the text of `json`, whose memory goes back as it is read."""
+    it is asked for, from the text of `json`, whose memory goes back as it is read.
+
+    Each has a `kind`. A `time` is a text, and is there where a comment tells it. A voltage whose
+    VOUT_MODE the capture has not told has `"mode": "assumed"`.
+
+        >>> import pmb
+        >>> profile = "[[device]]\\naddress = 0x58\\npec = 'optional'\\nname = 'VDD'"
+        >>> it = next(pmb.transactions(profile, "# 0.5 s\\nS b0 A 21 A 00 A 18 A P"))
+        >>> it["time"], it["name"], it["command"], it["value"], it["mode"]
+        ('0.5', 'VDD', 'VOUT_COMMAND', '12', 'assumed')
+    """
     choice = _choice(devices, digits, late, fixed_vout_mode, keep_going)
     room, told = _whole(_JSON, profile, capture, *choice)
     return _objects(room, told.length)

@@ -1,0 +1,88 @@
+"""Captures that are drawn for `json`: packets with comments between and inside, packets that tell
+VOUT_MODE or leave it untold, and packets to addresses that speak no PMBus."""
+
+from . import packets
+from .packets import Part, Read, Write
+
+PAGE, PAGE_PLUS_WRITE, VOUT_MODE = 0x00, 0x05, 0x20
+RESTORES = (0x12, 0x14, 0x16, 0x18)
+VOLTAGES = (0x21, 0x22, 0x24, 0x8B)
+TOLD = (PAGE, VOUT_MODE, VOUT_MODE, PAGE_PLUS_WRITE, *RESTORES, *VOLTAGES, *VOLTAGES)
+# Time lines, and what is nearly one; %d is a number that is drawn.
+COMMENTS = [
+    "# %d s", "# %d.5 s", "# %d. s", "# .%d s", "# 2026-01-25T%02d", "# 2026-01-25T15:%02d:08.5Z",
+    "# %d", "# %d s ", "#  %d s", " # %d s", "#%d s", "# %d  s", "# %d.0.1 s", "# %de1 s", "# . s",
+    "# 2026-01-25 %02d", "# 2026-1-25T%02d:00", "# " + "0" * 38 + "%02d s", "# " + "0" * 39 + "%02d s",
+    "# done", "",
+]
+
+
+def comment(chance):
+    """A line without words: most often a time line."""
+    line = COMMENTS[0] if chance.random() < 0.5 else chance.choice(COMMENTS)
+    line = line % chance.randrange(100) if "%" in line else line
+    return line + chance.choice(("\n", "\n", "\n", "\r\n", "\r\r\n"))
+
+
+def data(chance, device, entry):
+    """What is told to a register, or by one."""
+    if entry.code == PAGE:
+        return (chance.choice((0, 0, 1, device.pages - 1, device.pages, 0xFF)),)
+    if entry.code == VOUT_MODE:
+        return (chance.choice((*device.modes, 0x13, 0x14, 0x17, 0x40, 0x97)),)
+    if entry.code == PAGE_PLUS_WRITE:
+        told = (0, chance.choice((0x20, 0x20, 0x21)), 0x13, 0x20)
+        return told[: chance.randrange(5)]
+    size = packets.SIZES.get(entry.write or entry.read, chance.randrange(4))
+    return tuple(chance.randrange(256) for _ in range(size))
+
+
+def told(chance, profile):
+    """A packet of a device that says something of PAGE and VOUT_MODE, or none."""
+    device = chance.choice(profile.devices)
+    entry = device.entry(chance.choice(TOLD))
+    if entry is None:
+        return []
+    pec = device.pec == "on" or (device.pec == "optional" and chance.random() < 0.3)
+    parts = (Part(device.address, entry.code, data(chance, device, entry), pec),)
+    drawn = Write(parts)
+    if entry.read and chance.random() < 0.4:
+        drawn = Read(device.address, entry.code, parts[0].data, pec)
+    return [] if packets.check(profile, drawn) else packets.events_of(profile, drawn)
+
+
+def other(chance, profile):
+    """A packet to an address that is ignored, or to any, of any events."""
+    address = chance.choice(profile.ignored or [chance.randrange(128)])
+    sent = [2 * address + chance.randrange(2), *(chance.randrange(256) for _ in range(3))]
+    events = packets.refused_leg(sent[: chance.randrange(1, 5)])
+    if chance.random() < 0.3:
+        events[-1:] = packets.events_of(profile, packets.NoAlert())
+    if chance.random() < 0.3:
+        events[-2] = chance.choice("AS")
+    return events
+
+
+def spelled(chance, events):
+    """The text of a packet: most often a line, seldom with a comment or a bad word in it."""
+    words = packets.events_text(events).split()
+    if words and chance.random() < 0.1:
+        at = chance.randrange(len(words) + 1)
+        words[at:at] = [chance.choice(("x", "0", "\n" + comment(chance)))]
+    return " ".join(words) + chance.choice(("\n", "\n", "\n", " ", " # 7 s\n", "\r\n"))
+
+
+def capture(chance, profile, draw):
+    """A text of packets, some of which `draw` gives."""
+    text = ""
+    for _ in range(chance.randrange(2, 12)):
+        for _ in range(chance.choice((0, 1, 1, 2))):
+            text += comment(chance)
+        kind = chance.random()
+        if kind < 0.25:
+            text += spelled(chance, other(chance, profile))
+        elif kind < 0.7:
+            text += spelled(chance, told(chance, profile))
+        else:
+            text += spelled(chance, draw())
+    return text
