@@ -91,8 +91,8 @@ def capture(chance, profile, count):
     return packets.events_text(events)
 
 
-def json_flags(chance, profile):
-    """Flags of `json`."""
+def flags(chance, profile):
+    """Flags of `json` and `log`."""
     addresses = [device.address for device in profile.devices] + (profile.ignored or [])
     return [
         *chance.choice(([], [], ["--late"], ["--late", "--fixed-vout-mode"])),
@@ -142,7 +142,8 @@ def rows_under(chance, flag, front, profile):
     asked = [request_line(chance, profile) for _ in range(12)]
     return [
         (["show", *flag], front + some),
-        (["json", *flag, *json_flags(chance, profile)], front + timed),
+        (["json", *flag, *flags(chance, profile)], front + timed),
+        (["log", *flag, *flags(chance, profile)], front + timed),
         (["build", *flag], front + "\n".join(drawn).encode()),
         (["run", *flag], front + "\n".join(asked).encode()),
     ]

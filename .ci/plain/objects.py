@@ -55,6 +55,28 @@ def rounded(number, places):
     return ("-" if units < 0 else "") + whole + ("." + part if part else "")
 
 
+def bit_names(code, data):
+    """The names of the bits that are set, highest first."""
+    word = word_of(data)
+    bits = [bit for bit in range(8 * len(data) - 1, -1, -1) if word >> bit & 1]
+    return [bit_name(code, bit) or "bit%d" % bit for bit in bits]
+
+
+def word_of(data):
+    """The number of some bytes, the low one first."""
+    return sum(byte << 8 * i for i, byte in enumerate(data))
+
+
+def due_code(device, address, sent):
+    """The right packet error code, where the last byte that was sent is in its place; else None."""
+    entry = device and device.entry(sent[0])
+    if not entry or entry.write is None or device.pec == "off":
+        return None
+    if packets.missing(entry.write, sent[1:-1]) != 0:
+        return None
+    return packets.pec([2 * address] + sent[:-1])
+
+
 # Objects: lists of keys with their texts
 
 class Objects:
@@ -104,18 +126,12 @@ class Objects:
         """What data of a command say."""
         device = self.profile.device(address)
         entry = device.entry(code)
-        word = sum(byte << 8 * i for i, byte in enumerate(data))
         if entry.kind == "raw" or not data:
             return []
         if entry.kind == "status":
-            bits = [
-                bit_name(code, bit) or "bit%d" % bit
-                for bit in range(8 * len(data) - 1, -1, -1)
-                if word >> bit & 1
-            ]
-            return [("clears" if is_write else "bits", array(bits))]
+            return [("clears" if is_write else "bits", array(bit_names(code, data)))]
         try:
-            number = numbers.decode(self.number_format(device, entry), word)
+            number = numbers.decode(self.number_format(device, entry), word_of(data))
         except numbers.Fault as fault:
             return [("raw", string(str(fault)))]
         members = [("value", string(numbers.text(number))),
@@ -204,13 +220,9 @@ class Objects:
 
     def error_code(self, address, sent):
         """Of a refused byte in the place of a write's error code."""
-        device = self.profile.device(address)
-        entry = device and device.entry(sent[0])
-        if not entry or entry.write is None or device.pec == "off":
+        right = due_code(self.profile.device(address), address, sent)
+        if right is None:
             return []
-        if packets.missing(entry.write, sent[1:-1]) != 0:
-            return []
-        right = packets.pec([2 * address] + sent[:-1])
         verdict = "right" if sent[-1] == right else "wrong"
         return [("pec", string(verdict)), ("right_pec", digits_of([right]))]
 
@@ -302,11 +314,16 @@ def head(text, starts, first, time, at):
 def json(profile, given, choice):
     """The lines, and how many refusals and bad words there are."""
     objects = Objects(profile, choice)
+    read_all(objects, profile, given, choice)
+    objects.end()
+    return "".join(objects.lines), objects.refusals + objects.bad_tokens
+
+
+def read_all(objects, profile, given, choice):
+    """Reads a capture: all that it says goes to objects."""
     first, begin = 0, 0  # events before, and the byte at which reading begins
     while begin is not None:
         first, begin = read_on(objects, profile, given, choice, first, begin)
-    objects.end()
-    return "".join(objects.lines), objects.refusals + objects.bad_tokens
 
 
 def read_on(objects, profile, given, choice, first, begin):

@@ -71,7 +71,7 @@ def rows_under(heading):
     return [row for row in rows if re.fullmatch("[0-9a-f]{2}", row[0]) and row[1].isidentifier()]
 
 
-def standard_entry(code, name, write, read, call, kind, paged):
+def standard_entry(code, name, write, read, call, kind, paged, _unit):
     forms = [None if form == "–" else form for form in (write, read, call)]
     return Entry(int(code, 16), name, *forms, kind, paged == "yes")
 

@@ -2,7 +2,7 @@
 
 import re
 
-from . import devices, lines, notes, numbers, objects, packets, profiles, reading
+from . import devices, lines, log, notes, numbers, objects, packets, profiles, reading
 from .numbers import Fault
 
 
@@ -15,9 +15,10 @@ def program(words, given):
     if len(words) == 2 and words[0] in ("encode", "decode"):
         return convert(words[0], words[1], given)
     tasks = {"show": show, "check": check, "build": build, "run": run}
-    if words[:1] == ["json"]:
-        words, choice = json_flags(words)
-        tasks["json"] = lambda profile, matter: json(profile, matter, choice)
+    if words[:1] in (["json"], ["log"]):
+        words, choice = flags(words)
+        told = {"json": objects.json, "log": log.log}[words[0]]
+        tasks[words[0]] = lambda profile, matter: telling(told(profile, matter, choice))
     if words == [words[0], "--sample"] and words[0] in tasks:
         return tasks[words[0]](profiles.SAMPLE, given)
     if len(words) == 1 and words[0] in tasks:
@@ -66,9 +67,11 @@ def show(profile, given):
     return answered(answers, is_bad)
 
 
-def json_flags(words):
-    """The words without the flags of `json`, and what these say."""
+def flags(words):
+    """The words without the flags of `json` and `log`, and what these say."""
     choice, kept, left = objects.Choice(), words[:1], list(words[1:])
+    if words[0] == "log":
+        choice = choice._replace(digits=4)
     while left:
         flag = left.pop(0)
         if flag == "--late":
@@ -86,8 +89,9 @@ def json_flags(words):
     return kept, choice
 
 
-def json(profile, given, choice):
-    text, bad = objects.json(profile, given, choice)
+def telling(told):
+    """Of a text, and how many refusals and bad words it tells."""
+    text, bad = told
     return 1 if bad else 0, text.encode(), b""
 
 

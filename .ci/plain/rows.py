@@ -302,8 +302,8 @@ def rows():
     """All rows."""
     found = [(["show", "--sample"], b""), (["build", "--sample"], b"\n"), (["show"], b"")]
     for capture in lines_of(CAPTURES):
-        found += [([task, "--sample"], capture) for task in ("show", "check", "json")]
-    found += json_rows()
+        found += [([task, "--sample"], capture) for task in ("show", "check", "json", "log")]
+    found += rows_with_flags("json") + rows_with_flags("log")
     found += [(["build", "--sample"], line + b"\n") for line in lines_of(TRANSACTIONS)]
     found.append((["build", "--sample"], TRANSACTIONS.encode()))
     found.append((["build", "--sample"], b"write 58 03\r\nwrite 58 03\r\r\n\r\nwrite # 5\r"))
@@ -313,16 +313,16 @@ def rows():
     return found
 
 
-def json_rows():
-    """Captures under the flags of `json`."""
+def rows_with_flags(task):
+    """Captures under the flags of `json` and `log`."""
     flags = [[], ["--late"], ["--late", "--fixed-vout-mode"], ["--keep-going"], ["--digits", "0"],
              ["--digits", "12"], ["--digits", "2", "--late"], ["--device", "58"],
              ["--device", "59", "--device", "20"], ["--keep-going", "--late", "--device", "5a"]]
-    found = [(["json", "--sample"] + words, JSON_CAPTURE.encode()) for words in flags]
+    found = [([task, "--sample"] + words, JSON_CAPTURE.encode()) for words in flags]
     for capture in lines_of(TIMED):
         text = capture.replace(b"/", b"\n")
         for words in ([], ["--keep-going"], ["--late"], ["--late", "--fixed-vout-mode"]):
-            found.append((["json", "--sample"] + words, text))
+            found.append(([task, "--sample"] + words, text))
     return found
 
 
@@ -351,6 +351,8 @@ def long_rows():
         (["show", "--sample"], b"S b0 A 99 A S b1 A ff" + b" A 41" * 255 + b" N P"),
         (["json", "--sample"], b"S b0 A 99 A S b1 A ff" + b" A 41" * 255 + b" N P"),
         (["json", "--sample"], b"S b0 A 99 A ff" + b" A 41" * 255 + b" A 00 N P"),
+        (["log", "--sample"], b"S b0 A 99 A S b1 A ff" + b" A 41" * 255 + b" N P"),
+        (["log", "--sample"], b"S b0 A 99 A ff" + b" A 41" * 255 + b" A 00 N P"),
         (["show", "--sample"], b"S b0 A 99 A ff" + b" A 41" * 255 + b" A P"),
         (["build", "--sample"], b"write 58 99" + block + b" pec\n"),
         (["build", "--sample"], b"write 58 99" + block + b" 41\n"),
@@ -382,6 +384,7 @@ def long_rows():
         (["show"], many + legs + b" P"),
         (["json"], many + legs + b" P"),
         (["json"], many + legs + b" S 40 A P"),
+        (["log"], many + legs + b" P"),
         (["json"], many + legs[: -len(b"S 3e A 03 A")] + b"S 3e A 04 N P"),
         (["show"], many + legs + b" S 40 A 03 A P"),
         (["show"], many + legs[: -len(b"03 A")] + b"04 N P"),
@@ -399,29 +402,32 @@ def rows_behind_profiles():
     found += [(["show"], sample + capture) for capture in lines_of(CAPTURES)[:12]]
     found += [(["build"], sample + line) for line in lines_of(TRANSACTIONS)[:8]]
     for capture in lines_of(ODD_CAPTURES):
-        found += [([task], odd + capture) for task in ("show", "check", "json")]
-        found.append((["json", "--late"], odd + capture))
+        found += [([task], odd + capture) for task in ("show", "check", "json", "log")]
+        found += [([task, "--late"], odd + capture) for task in ("json", "log")]
     found += [(["build"], odd + line) for line in lines_of(ODD_LINES)]
     for requests in lines_of(ODD_REQUESTS):
         found.append((["run"], odd + requests.replace(b"; ", b"\n")))
     unlike = profiles.UNLIKE_TEXT + b"%%\n"
     for capture in lines_of(UNLIKE_CAPTURES):
-        found += [([task], unlike + capture) for task in ("show", "check", "json")]
-        found.append((["json", "--late"], unlike + capture))
-        found.append((["json", "--late", "--fixed-vout-mode"], unlike + capture))
+        found += [([task], unlike + capture) for task in ("show", "check", "json", "log")]
+        for task in ("json", "log"):
+            found.append(([task, "--late"], unlike + capture))
+            found.append(([task, "--late", "--fixed-vout-mode"], unlike + capture))
     found += [(["build"], unlike + line) for line in lines_of(UNLIKE_LINES)]
     rails = profiles.RAILS_TEXT + b"%%\n"
     for front, lists in ((unlike, UNLIKE_REQUESTS), (rails, RAILS_REQUESTS)):
         for requests in lines_of(lists):
             found.append((["run"], front + requests.replace(b"; ", b"\n")))
     capture = example("profiles/two_rails.txt")
-    found += [([task], rails + capture) for task in ("show", "check", "json")]
+    found += [([task], rails + capture) for task in ("show", "check", "json", "log")]
     nobody = b"device = []\n%%\n"
     found.append((["show"], nobody + b"S 40 N P S 19 A b0 N P S 40 A P"))
     found.append((["build"], nobody + b"write 58 03\nrefused 58\nalert none\n"))
-    found.append((["json"], b"ignore = []\n" + nobody + b"S 40 N P S 40 A P"))
+    for task in ("json", "log"):
+        found.append(([task], b"ignore = []\n" + nobody + b"S 40 N P S 40 A P"))
     board = profiles.BOARD_TEXT + b"%%\n" + example("sessions/power_up.txt")
     found += [(["show"], board), (["json"], board), (["json", "--late"], board)]
+    found += [(["log"], board), (["log", "--late"], board)]
     found.append((["run"], profiles.BOARD_TEXT + b"%%\n" + example("requests/bring_up.txt")))
     found.append((["show"], profiles.LTC3880_TEXT + b"%%\n" + example("profiles/ltc3880.txt")))
     found.append((["show"], profiles.PFE1100_TEXT + b"%%\n" + example("profiles/pfe1100.txt")))

@@ -1,5 +1,5 @@
 -- What `clap` found in the words, as what they ask for: the subcommand's name, its matches, and a
--- text or texts with what stands for none. For `task_of`, `work_of`, `direction_of`, `read_json`,
+-- text or texts with what stands for none. For `task_of`, `work_of`, `direction_of`, `read_facts`,
 -- `read_import` and `has_flag`. The types that clap lends are read as the texts they point to.
 use Rattle.std.proofs.Common.{◌≡◌, Bool, true, false, Option, Some, None, List, [], map, refl, sym, ap, ◌∙◌}
 use Rattle.std.specs.Borrow.{Bor}

@@ -3,7 +3,6 @@
 -- `words_ask`. A word that doesn't begin with a hyphen (byte 45) is a value of the subcommand;
 -- words that are known are computed.
 use Rattle.std.proofs.Common.{◌≡◌, ◌≢◌, ℕ, false, eqb, Some, None, List, [], ◌∷◌, codes, refl, sym, ap, ap₂, ◌∙◌, subst}
-use Rattle.std.proofs.Common.{arith}
 use Rattle.std.specs.Str.{bytes_eq}
 use Rattle.std.proofs.lemmas.Bool.{ne_eqb}
 use Rattle.clap.specs.Faults.{check_fault, defaults_fault, level_fault, settle_fault, step_fault, walk_fault}
@@ -15,9 +14,9 @@ use Rattle.clap.specs.Walk.{Held, Step, Walk, after_step, arg_by_index, finished
 use Rattle.clap.specs.Walk.{to_positional, value, walk, walk_from, walked, word_met}
 use Rattle.clap.specs.Words.{Kinds, Row, Rule, Shape, Text, subcommand_of}
 use Rattle.clap.proofs.OnLiterals.{clap_on_literals}
-use Rattle.pmb_args.specs.Asked.{AskFor, Convert, NeedsNoFlag, UnderProfile, Wanted, Show, Check, Json, Build, Run}
-use Rattle.pmb_args.specs.Asked.{Profile, converter, format_in, name_of}
-use Rattle.pmb_args.specs.Json.{JsonWanted, SpellDevices, SpellsDigits}
+use Rattle.pmb_args.specs.Asked.{AskFor, Convert, NeedsNoFlag, UnderProfile, Wanted, Show, Check, Json, Log, Build, Run}
+use Rattle.pmb_args.specs.Asked.{Profile, converter, format_in, name_of, wanted_by}
+use Rattle.pmb_args.specs.Facts.{FactsCommand, FactsWanted, SpellDevices, json, log, at_first, command_name}
 use Rattle.pmb_args.specs.declared.direction.Direction.{Direction}
 use Rattle.pmb_args.specs.declared.direction.Direction.TheVariants.{Encode, Decode}
 use Rattle.pmb_args.specs.declared.profile_place.ProfilePlace.TheVariants.{Sample, Front}
@@ -165,13 +164,35 @@ asks_to_convert name format direction no_hyphen =
 
 -- ---- a subcommand with the flag `--sample` alone, or without it
 
--- 6 is spelled so
-pub six : SpellsDigits (codes "6") 6
-six = record { numeral = (omega arith, (omega arith, tt)); value = refl; most = omega arith }
-
 -- no words spell no devices
 pub no_device : SpellDevices [] []
 no_device = record { addresses = []; spell = tt; once = refl }
+
+-- `json` and `log`
+facts_sampled : (name : Text) (command : FactsCommand)
+    → AskFor (name ∷ command_name command ∷ codes "--sample" ∷ [])
+    (UnderProfile Sample (wanted_by command (at_first command)))
+unfolding clap_on_literals
+facts_sampled name json = record {
+  no_fault = refl;
+  asks = (_, refl, refl, record { start = refl; after_bad_token = refl; digits = refl; devices = no_device });
+}
+facts_sampled name log = record {
+  no_fault = refl;
+  asks = (_, refl, refl, record { start = refl; after_bad_token = refl; digits = refl; devices = no_device });
+}
+
+facts_unsampled : (name : Text) (command : FactsCommand) → AskFor (name ∷ command_name command ∷ [])
+    (UnderProfile Front (wanted_by command (at_first command)))
+unfolding clap_on_literals
+facts_unsampled name json = record {
+  no_fault = refl;
+  asks = (_, refl, refl, record { start = refl; after_bad_token = refl; digits = refl; devices = no_device });
+}
+facts_unsampled name log = record {
+  no_fault = refl;
+  asks = (_, refl, refl, record { start = refl; after_bad_token = refl; digits = refl; devices = no_device });
+}
 
 pub asks_sampled : (name : Text) (wanted : Wanted) → NeedsNoFlag wanted
     → AskFor (name ∷ name_of wanted ∷ codes "--sample" ∷ []) (UnderProfile Sample wanted)
@@ -179,18 +200,12 @@ unfolding clap_on_literals
 -- each subcommand: no fault, and the matches that clap builds of these words
 asks_sampled name Show plain = record { no_fault = refl; asks = (_, refl, refl, tt) }
 asks_sampled name Check plain = record { no_fault = refl; asks = (_, refl, refl, tt) }
-asks_sampled name (Json choice) plain = subst
-    (λ (j : JsonWanted). AskFor (name ∷ codes "json" ∷ codes "--sample" ∷ []) (UnderProfile Sample (Json j)))
-    (sym plain)
-    (record {
-      no_fault = refl;
-      asks = (
-        _,
-        refl,
-        refl,
-        record { start = refl; after_bad_token = refl; digits = six; devices = no_device },
-      );
-    })
+asks_sampled name (Json choice) plain =
+    subst (λ (j : FactsWanted). AskFor (name ∷ codes "json" ∷ codes "--sample" ∷ []) (UnderProfile Sample (Json j)))
+    (sym plain) (facts_sampled name json)
+asks_sampled name (Log choice) plain =
+    subst (λ (l : FactsWanted). AskFor (name ∷ codes "log" ∷ codes "--sample" ∷ []) (UnderProfile Sample (Log l)))
+    (sym plain) (facts_sampled name log)
 asks_sampled name Build plain = record { no_fault = refl; asks = (_, refl, refl, tt) }
 asks_sampled name Run plain = record { no_fault = refl; asks = (_, refl, refl, tt) }
 asks_sampled name Profile plain = record { no_fault = refl; asks = (_, refl, refl, tt) }
@@ -202,16 +217,11 @@ unfolding clap_on_literals
 asks_unsampled name Show plain = record { no_fault = refl; asks = (_, refl, refl, tt) }
 asks_unsampled name Check plain = record { no_fault = refl; asks = (_, refl, refl, tt) }
 asks_unsampled name (Json choice) plain =
-    subst (λ (j : JsonWanted). AskFor (name ∷ codes "json" ∷ []) (UnderProfile Front (Json j))) (sym plain)
-    (record {
-      no_fault = refl;
-      asks = (
-        _,
-        refl,
-        refl,
-        record { start = refl; after_bad_token = refl; digits = six; devices = no_device },
-      );
-    })
+    subst (λ (j : FactsWanted). AskFor (name ∷ codes "json" ∷ []) (UnderProfile Front (Json j))) (sym plain)
+    (facts_unsampled name json)
+asks_unsampled name (Log choice) plain =
+    subst (λ (l : FactsWanted). AskFor (name ∷ codes "log" ∷ []) (UnderProfile Front (Log l))) (sym plain)
+    (facts_unsampled name log)
 asks_unsampled name Build plain = record { no_fault = refl; asks = (_, refl, refl, tt) }
 asks_unsampled name Run plain = record { no_fault = refl; asks = (_, refl, refl, tt) }
 asks_unsampled name Profile plain = record { no_fault = refl; asks = (_, refl, refl, tt) }

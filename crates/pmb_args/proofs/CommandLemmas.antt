@@ -1,6 +1,6 @@
 -- A command with one more flag, or with one more subcommand, as clap's rules have it: for
 -- `pmb_command`, `traffic_command`, `capture_command`, `recording_command`, `import_command`,
--- `json_command` and `with_leaf`, which build the tool's command.
+-- `facts_command` and `with_leaf`, which build the tool's command.
 use Rattle.std.proofs.Common.{◌≡◌, ◌||◌, Bool, false, ap₂, ◌∙◌}
 use Rattle.clap.specs.Words.{AddsArg, App, Rule, Text, app_of, new_app, rule_of, with_rule, with_subcommand}
 use Rattle.clap.specs.declared.builder.arg.Arg.{Arg}
@@ -22,3 +22,8 @@ pub same_leaf : (name : Text) {app app_is : App} {rule rule_is : Rule} → app �
     ≡ with_subcommand app_is (with_rule (new_app name) rule_is).top
 same_leaf name same_app same_rule = ap₂ (λ (a : App) (r : Rule). with_subcommand a (with_rule (new_app name) r).top)
     same_app same_rule
+
+-- a subcommand, by what is known of both commands
+pub same_subcommand : {app app_is leaf leaf_is : App} → app ≡ app_is → leaf ≡ leaf_is
+    → with_subcommand app leaf.top ≡ with_subcommand app_is leaf_is.top
+same_subcommand same_app same_sub = ap₂ (λ (a l : App). with_subcommand a l.top) same_app same_sub

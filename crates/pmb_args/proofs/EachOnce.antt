@@ -1,5 +1,5 @@
 -- A list of numbers without those that stand earlier in it: for `--device`, which may name a
--- device more than once (`read_devices` and `read_address`, through `JsonAddresses`). A number
+-- device more than once (`read_devices` and `read_address`, through `Addresses`). A number
 -- more is added if it is not there yet, as the code does it; and of numbers below n at most n are
 -- left, so that 128 addresses are enough.
 use Rattle.std.proofs.Common.{◌≡◌, ◌≢◌, ℕ, zero, suc, ◌+◌, ◌<◌, ◌≤◌, ◌==◌, ◌||◌, Bool, true, false, cond, not, List, []}
@@ -8,7 +8,7 @@ use Rattle.std.specs.List.{filter, list_any}
 use Rattle.std.proofs.lemmas.Bool.{eqb-true}
 use Rattle.std.proofs.lemmas.List.{append-nil}
 use Rattle.std.proofs.lemmas.List.Elements.{filter-append}
-use Rattle.pmb_args.specs.Json.{each_once}
+use Rattle.pmb_args.specs.Facts.{each_once}
 
 -- a number is among others
 abbrev pub has : ℕ → List ℕ → Bool

@@ -1,6 +1,6 @@
 pub mod Flags
 pub mod Words
-pub mod Json
+pub mod Facts
 pub mod Import
 pub mod Asked
 pub mod Texts

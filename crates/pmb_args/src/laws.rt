@@ -9,9 +9,9 @@ ghost use Rattle.pmb_sigrok_line.specs.declared.rate.Rate.{Rate};
 ghost use Rattle.pmb_recorder.specs.Recorded.{OfKernel, OfSigrok};
 ghost use Rattle.pmb_recorder.specs.declared.source.Source.{Source};
 ghost use Rattle.pmb_args.specs.Import.{recorded_by, source_word};
-ghost use Rattle.pmb_args.specs.Asked.{AskFor, AskForNothing, Asking, Convert, HasBadFormat, Import, Json, NamesNone, NeedsNoFlag, UnderProfile, Wanted, converter, name_of};
+ghost use Rattle.pmb_args.specs.Asked.{AskFor, AskForNothing, Asking, Convert, HasBadFormat, Import, NamesNone, NeedsNoFlag, UnderProfile, Wanted, converter, name_of, wanted_by};
 ghost use Rattle.clap.specs.declared.error.kind.ErrorKind.TheVariants.{DisplayHelp, InvalidSubcommand};
-ghost use Rattle.pmb_args.specs.Json.{SpellsAddress, SpellsDigits, at_first};
+ghost use Rattle.pmb_args.specs.Facts.{FactsCommand, SpellsAddress, SpellsDigits, at_first, command_name};
 ghost use Rattle.pmb_args.specs.Words.{AreRefused, AskToTell, IsFlag, faults_of};
 ghost use Rattle.pmb_args.specs.declared.direction.Direction.{Direction};
 ghost use Rattle.pmb_scan.specs.declared.after_bad_token.AfterBadToken.TheVariants.{Continue};
@@ -20,9 +20,9 @@ ghost use Rattle.pmb_args.specs.declared.profile_place.ProfilePlace.TheVariants.
 
 use pmb_recorder::laws::one_recorder;
 
-/// The words `pmb show`, `pmb check`, `pmb json`, `pmb build`, `pmb run` and `pmb profile`, each with
-/// `--sample` or without it, `pmb encode FORMAT` and `pmb decode FORMAT` have no fault of `clap`'s and
-/// ask for just that, where FORMAT does not begin with `-`; `pmb --help` and `pmb --version` call for
+/// The words `pmb show`, `pmb check`, `pmb json`, `pmb log`, `pmb build`, `pmb run` and
+/// `pmb profile`, each with `--sample` or without it, `pmb encode FORMAT` and `pmb decode FORMAT` have
+/// no fault of `clap`'s and ask for just that, where FORMAT does not begin with `-`; `pmb --help` and `pmb --version` call for
 /// a text about `pmb`. Of `pmb help` and whatever words after it `clap`'s definition says that they
 /// may call for help or be refused.
 pub fn words_ask()
@@ -34,20 +34,20 @@ pub fn words_ask()
     ensures help_words { (name : Text) (words : List Text) → faults_of (name ∷ codes "help" ∷ words) ≡ DisplayHelp ∷ InvalidSubcommand ∷ [] }
 {}
 
-/// `pmb json` with `--late`, `--late --fixed-vout-mode`, `--keep-going`, `--keep-going --sample`,
-/// `--digits N` or `--device HH` has no fault of `clap`'s and asks for just that, where N is a number
-/// from 0 to 12 and HH an address. With any other N or HH that does not begin with `-`, and with
-/// `--fixed-vout-mode` alone, it asks for nothing.
-pub fn json_words_ask()
-    ensures late { (name : Text) → AskFor (name ∷ codes "json" ∷ codes "--late" ∷ []) (UnderProfile Front (Json (record at_first { start = Late }))) }
-    ensures late_fixed { (name : Text) → AskFor (name ∷ codes "json" ∷ codes "--late" ∷ codes "--fixed-vout-mode" ∷ []) (UnderProfile Front (Json (record at_first { start = LateFixedMode }))) }
-    ensures keep_going { (name : Text) → AskFor (name ∷ codes "json" ∷ codes "--keep-going" ∷ []) (UnderProfile Front (Json (record at_first { after_bad_token = Continue }))) }
-    ensures two { (name : Text) → AskFor (name ∷ codes "json" ∷ codes "--keep-going" ∷ codes "--sample" ∷ []) (UnderProfile Sample (Json (record at_first { after_bad_token = Continue }))) }
-    ensures digits { (name N : Text) (n : ℕ) → SpellsDigits N n → AskFor (name ∷ codes "json" ∷ codes "--digits" ∷ N ∷ []) (UnderProfile Front (Json (record at_first { digits = n }))) }
-    ensures device { (name HH : Text) (address : ℕ) → SpellsAddress HH address → AskFor (name ∷ codes "json" ∷ codes "--device" ∷ HH ∷ []) (UnderProfile Front (Json (record at_first { devices = address ∷ [] }))) }
-    ensures fixed_alone { (name : Text) → AskForNothing (name ∷ codes "json" ∷ codes "--fixed-vout-mode" ∷ []) }
-    ensures bad_digits { (name N : Text) → (IsFlag N → ⊥) → ((n : ℕ) → SpellsDigits N n → ⊥) → AskForNothing (name ∷ codes "json" ∷ codes "--digits" ∷ N ∷ []) }
-    ensures bad_device { (name HH : Text) → (IsFlag HH → ⊥) → ((address : ℕ) → SpellsAddress HH address → ⊥) → AskForNothing (name ∷ codes "json" ∷ codes "--device" ∷ HH ∷ []) }
+/// `pmb json` and `pmb log` with `--late`, `--late --fixed-vout-mode`, `--keep-going`,
+/// `--keep-going --sample`, `--digits N` or `--device HH` have no fault of `clap`'s and ask for just
+/// that, where N is a number from 0 to 12 and HH an address. With any other N or HH that does not
+/// begin with `-`, and with `--fixed-vout-mode` alone, they ask for nothing.
+pub fn fact_words_ask()
+    ensures late { (name : Text) (command : FactsCommand) → AskFor (name ∷ command_name command ∷ codes "--late" ∷ []) (UnderProfile Front (wanted_by command (record (at_first command) { start = Late }))) }
+    ensures late_fixed { (name : Text) (command : FactsCommand) → AskFor (name ∷ command_name command ∷ codes "--late" ∷ codes "--fixed-vout-mode" ∷ []) (UnderProfile Front (wanted_by command (record (at_first command) { start = LateFixedMode }))) }
+    ensures keep_going { (name : Text) (command : FactsCommand) → AskFor (name ∷ command_name command ∷ codes "--keep-going" ∷ []) (UnderProfile Front (wanted_by command (record (at_first command) { after_bad_token = Continue }))) }
+    ensures two { (name : Text) (command : FactsCommand) → AskFor (name ∷ command_name command ∷ codes "--keep-going" ∷ codes "--sample" ∷ []) (UnderProfile Sample (wanted_by command (record (at_first command) { after_bad_token = Continue }))) }
+    ensures digits { (name : Text) (command : FactsCommand) (N : Text) (n : ℕ) → SpellsDigits N n → AskFor (name ∷ command_name command ∷ codes "--digits" ∷ N ∷ []) (UnderProfile Front (wanted_by command (record (at_first command) { digits = n }))) }
+    ensures device { (name : Text) (command : FactsCommand) (HH : Text) (address : ℕ) → SpellsAddress HH address → AskFor (name ∷ command_name command ∷ codes "--device" ∷ HH ∷ []) (UnderProfile Front (wanted_by command (record (at_first command) { devices = address ∷ [] }))) }
+    ensures fixed_alone { (name : Text) (command : FactsCommand) → AskForNothing (name ∷ command_name command ∷ codes "--fixed-vout-mode" ∷ []) }
+    ensures bad_digits { (name : Text) (command : FactsCommand) (N : Text) → (IsFlag N → ⊥) → ((n : ℕ) → SpellsDigits N n → ⊥) → AskForNothing (name ∷ command_name command ∷ codes "--digits" ∷ N ∷ []) }
+    ensures bad_device { (name : Text) (command : FactsCommand) (HH : Text) → (IsFlag HH → ⊥) → ((address : ℕ) → SpellsAddress HH address → ⊥) → AskForNothing (name ∷ command_name command ∷ codes "--device" ∷ HH ∷ []) }
 {}
 
 /// `pmb import SOURCE` with each of the five sources, `pmb import kernel --bus NAME`,

@@ -13,12 +13,12 @@
 
 mod direction;
 mod exit_status;
+mod fact_arguments;
+mod fact_words;
+mod facts_fault;
 mod flags;
 mod import_fault;
 mod import_words;
-mod json_arguments;
-mod json_fault;
-mod json_words;
 pub mod laws;
 mod profile_place;
 mod subcommand;
@@ -28,7 +28,7 @@ mod words;
 
 pub use direction::Direction;
 pub use exit_status::{ExitStatus, ended, report, report_format, report_nothing, report_text};
-pub use json_arguments::JsonArguments;
+pub use fact_arguments::FactArguments;
 pub use profile_place::ProfilePlace;
 pub use subcommand::Subcommand;
 pub use tasks::{Task, parse_command};

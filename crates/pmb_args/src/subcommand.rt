@@ -1,6 +1,6 @@
 //! What may be done under a profile.
 
-use crate::json_arguments::JsonArguments;
+use crate::fact_arguments::FactArguments;
 
 /// What is done under a profile, mostly with what comes after it.
 #[derive(Drop)]
@@ -10,7 +10,9 @@ pub enum Subcommand {
     /// What is wrong in a capture is reported, and how much of it.
     Check,
     /// What a capture says is written in JSON.
-    Json(JsonArguments),
+    Json(FactArguments),
+    /// What a capture says is written as lines for people.
+    Log(FactArguments),
     /// Packets are built from lines.
     Build,
     /// Requests are run against simulated devices.

@@ -11,11 +11,11 @@ ghost use Rattle.pmb_args.specs.Words.{AreRefused, AskToTell, MayBeRefused};
 
 use crate::direction::Direction;
 use crate::exit_status::{ExitStatus, report_nothing};
+use crate::fact_words::read_facts;
+use crate::facts_fault::{FactsFault, report_facts};
 use crate::flags::has_flag;
 use crate::import_fault::{ImportFault, report_import};
 use crate::import_words::read_import;
-use crate::json_fault::{JsonFault, report_json};
-use crate::json_words::read_json;
 use crate::profile_place::ProfilePlace;
 use crate::subcommand::Subcommand;
 use crate::words::{parse, report_words};
@@ -25,6 +25,12 @@ use pmb_recorder::Recorder;
 use pmb_recorder::laws::one_recorder;
 use std::alloc::Global;
 use std::convert::AsStr;
+
+/// The most digits after the point of a number, where `json` has no `--digits`.
+const JSON_DIGITS: u8 = 6;
+
+/// The same for `log`.
+const LOG_DIGITS: u8 = 4;
 
 /// What is to be done.
 #[derive(Drop)]
@@ -45,7 +51,9 @@ enum NoTask {
     // The words of `import` have a fault.
     Import(ImportFault),
     // The words of `json` have a fault.
-    Json(JsonFault),
+    Json(FactsFault),
+    // The words of `log` have a fault.
+    Log(FactsFault),
 }
 
 /// What the words ask for, the program's own name first. Where they ask for nothing to be done, the
@@ -54,8 +62,8 @@ enum NoTask {
 /// # Errors
 ///
 /// The exit status of what was written: `Done` for help or the version, `BadArguments` for words that are
-/// no command and for those of `import` or `json` that ask for nothing, `IoFailed` where `out` failed,
-/// and `NoMemory` where there was no memory.
+/// no command and for those of `import`, `json` or `log` that ask for nothing, `IoFailed` where `out`
+/// failed, and `NoMemory` where there was no memory.
 pub fn parse_command<'a, S: AsStr, W: Sink, E: Sink>(
     alloc: Global,
     words: &'a [S],
@@ -84,7 +92,8 @@ pub fn parse_command<'a, S: AsStr, W: Sink, E: Sink>(
         Ok(task) => Ok(task),
         Err(NoTask::NoCommand) => Err(report_nothing(err)),
         Err(NoTask::Import(fault)) => Err(report_import(fault, err)),
-        Err(NoTask::Json(fault)) => Err(report_json(fault, err)),
+        Err(NoTask::Json(fault)) => Err(report_facts("json", fault, err)),
+        Err(NoTask::Log(fault)) => Err(report_facts("log", fault, err)),
     }
 }
 
@@ -125,7 +134,7 @@ fn direction_of(name: &str) -> Option<Direction>
     }
 }
 
-// What a subcommand asks for under a profile, by its name, and for `json` by its flags.
+// What a subcommand asks for under a profile, by its name, and for `json` and `log` by its flags.
 fn work_of(name: &str, arguments: &ArgMatches<'_>) -> Result<Subcommand, NoTask>
     ensures { MatchResult result (λ work. NameAsks name.now (rows_of (found_of arguments.now)) (wanted_of work)) (λ _. (wanted : Wanted) → ¬ (NameAsks name.now (rows_of (found_of arguments.now)) wanted)) }
 {
@@ -134,9 +143,14 @@ fn work_of(name: &str, arguments: &ArgMatches<'_>) -> Result<Subcommand, NoTask>
     } else if name == "check" {
         Ok(Subcommand::Check)
     } else if name == "json" {
-        match read_json(arguments) {
+        match read_facts(arguments, JSON_DIGITS) {
             Ok(choice) => Ok(Subcommand::Json(choice)),
             Err(fault) => Err(NoTask::Json(fault)),
+        }
+    } else if name == "log" {
+        match read_facts(arguments, LOG_DIGITS) {
+            Ok(choice) => Ok(Subcommand::Log(choice)),
+            Err(fault) => Err(NoTask::Log(fault)),
         }
     } else if name == "build" {
         Ok(Subcommand::Build)

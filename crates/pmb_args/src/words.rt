@@ -8,7 +8,7 @@ ghost use Rattle.clap.specs.Words.{FailsBy, app_of, kind_of, new_app, rule_of, s
 ghost use Rattle.clap.specs.declared.builder.command.Command.TheViews.{out-Command as fields_of};
 ghost use Rattle.pmb_args.specs.ExitStatus.{IsTold};
 ghost use Rattle.pmb_args.specs.Texts.{WroteText};
-ghost use Rattle.pmb_args.specs.Words.{IsTelling, capture_app, faults_of, flag, format_rule, import_app, json_app, pmb_app, recording_app, required_word, sample, sampled_app, top_app, valued};
+ghost use Rattle.pmb_args.specs.Words.{IsTelling, capture_app, facts_app, faults_of, flag, format_rule, import_app, pmb_app, recording_app, required_word, sample, sampled_app, top_app, valued};
 
 use crate::exit_status::{ExitStatus, report, report_format};
 use clap::error::ErrorKind;
@@ -63,7 +63,7 @@ fn pmb_command<'a>(alloc: Global) -> Result<Command<'a>, AllocError>
     )
 }
 
-// `pmb` with `import`, `show`, `check`, `json`, `build` and `run`.
+// `pmb` with `import`, `show`, `check`, `json`, `log`, `build` and `run`.
 fn traffic_command<'a>(alloc: Global) -> Result<Command<'a>, AllocError>
     ensures { IfOk result (λ command. app_of command ≡ with_subcommand (with_subcommand capture_app (sampled_app (codes "build")).top) (sampled_app (codes "run")).top) }
 {
@@ -89,7 +89,7 @@ fn traffic_command<'a>(alloc: Global) -> Result<Command<'a>, AllocError>
     )
 }
 
-// `pmb` with `import`, `show`, `check` and `json`.
+// `pmb` with `import`, `show`, `check`, `json` and `log`.
 fn capture_command<'a>(alloc: Global) -> Result<Command<'a>, AllocError>
     ensures { IfOk result (λ command. app_of command ≡ capture_app) }
 {
@@ -115,7 +115,8 @@ fn capture_command<'a>(alloc: Global) -> Result<Command<'a>, AllocError>
          Example:\n  echo 'S b0 A 03 A 47 A P' | pmb check --sample",
         sample_flag(alloc),
     )?;
-    checking.subcommand(json_command(alloc)?)
+    let with_json = checking.subcommand(json_command(alloc)?)?;
+    with_json.subcommand(log_command(alloc)?)
 }
 
 // `pmb` with `import`.
@@ -197,17 +198,55 @@ fn import_command<'a>(alloc: Global) -> Result<Command<'a>, AllocError>
 
 // `json` with its flags.
 fn json_command<'a>(alloc: Global) -> Result<Command<'a>, AllocError>
-    ensures shape { IfOk result (λ command. app_of command ≡ json_app) }
+    ensures shape { IfOk result (λ command. app_of command ≡ facts_app (codes "json")) }
     ensures local { IfOk result (λ command. (fields_of command).has_globals ≡ false) }
 {
-    let bare = bare_command(
+    facts_command(
         alloc,
         "json",
         "Writes what a capture says, as lines of JSON",
         "Standard input is a profile, a line '%%' and the capture, or with --sample the capture \
          alone. 'pmb profile' shows what a profile makes, or what is wrong with it.\n\n\
          Example:\n  echo 'S b0 A 21 A 00 A 18 A P' | pmb json --sample",
-    );
+        "The most digits after the point of a number, 0 to 12; 6 without this",
+        "Of the objects that name a device, write only those of the device at this address of \
+         seven bits, in two hexadecimal digits; may be given more than once",
+    )
+}
+
+// `log` with its flags.
+fn log_command<'a>(alloc: Global) -> Result<Command<'a>, AllocError>
+    ensures shape { IfOk result (λ command. app_of command ≡ facts_app (codes "log")) }
+    ensures local { IfOk result (λ command. (fields_of command).has_globals ≡ false) }
+{
+    facts_command(
+        alloc,
+        "log",
+        "Writes what a capture says, as lines for people",
+        "A line has the time, the device's address and name, the selected page, the command, and \
+         what was written, read, refused or wrong.\n\n\
+         Standard input is a profile, a line '%%' and the capture, or with --sample the capture \
+         alone. 'pmb profile' shows what a profile makes, or what is wrong with it.\n\n\
+         Example:\n  echo 'S b0 A 21 A 00 A 18 A P' | pmb log --sample",
+        "The most digits after the point of a number, 0 to 12; 4 without this",
+        "Of the lines that name a device, write only those of the device at this address of \
+         seven bits, in two hexadecimal digits; may be given more than once",
+    )
+}
+
+// `json` or `log` with its flags, of which `--digits` and `--device` have a help of their own.
+fn facts_command<'a>(
+    alloc: Global,
+    name: &'a str,
+    about: &'a str,
+    example: &'a str,
+    digits_help: &'a str,
+    device_help: &'a str,
+) -> Result<Command<'a>, AllocError>
+    ensures shape { IfOk result (λ command. app_of command ≡ facts_app name.entry.now) }
+    ensures local { IfOk result (λ command. (fields_of command).has_globals ≡ false) }
+{
+    let bare = bare_command(alloc, name, about, example);
     bare.arg(sample_flag(alloc))?
         .arg(flag(
             alloc,
@@ -225,21 +264,8 @@ fn json_command<'a>(alloc: Global) -> Result<Command<'a>, AllocError>
             "keep-going",
             "After a word that is no token, drop the rest of its line and read on",
         ))?
-        .arg(valued(
-            alloc,
-            "digits",
-            "N",
-            ArgAction::Set,
-            "The most digits after the point of a number, 0 to 12; 6 without this",
-        ))?
-        .arg(valued(
-            alloc,
-            "device",
-            "HH",
-            ArgAction::Append,
-            "Of the objects that name a device, write only those of the device at this address of \
-             seven bits, in two hexadecimal digits; may be given more than once",
-        ))
+        .arg(valued(alloc, "digits", "N", ArgAction::Set, digits_help))?
+        .arg(valued(alloc, "device", "HH", ArgAction::Append, device_help))
 }
 
 // A subcommand without its arguments.

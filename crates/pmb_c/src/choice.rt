@@ -8,7 +8,7 @@ ghost use Rattle.pmb_c.specs.Choice.{bad_words_of, chosen, is_address, start_of}
 
 use pmb_decimal::Digits;
 use pmb_in_memory::JsonChoice;
-use pmb_json::AfterBadToken;
+use pmb_telling::AfterBadToken;
 use pmb_unknown_start::Start;
 
 /// How the objects of a capture are wanted.

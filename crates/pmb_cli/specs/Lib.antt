@@ -1,4 +1,4 @@
-pub mod Json
+pub mod Facts
 pub mod Memory
 pub mod Often
 pub mod ProfileFault

@@ -1,4 +1,4 @@
--- What `pmb show`, `pmb check`, `pmb json`, `pmb build`, `pmb run` and `pmb profile` write of what they read.
+-- What `pmb show`, `pmb check`, `pmb json`, `pmb log`, `pmb build`, `pmb run` and `pmb profile` write of what they read.
 use Rattle.std.specs.Prelude.{◌≡◌, ◌⊎◌, ℕ, true, List, []}
 use Rattle.std.specs.Io.KnownBytes.{IsAtEnd}
 use Rattle.pmb_build.specs.Lines.{building}
@@ -13,8 +13,8 @@ use Rattle.pmb_run.specs.Lines.{running}
 use Rattle.pmb_profile_text.specs.Table.{bus_text}
 use Rattle.pmb_table.specs.Profile.{ProfileParts}
 use Rattle.pmb_cli.specs.Profiles.{PartUnderFront, UnderFront, UnderSample}
-use Rattle.pmb_cli.specs.Json.{telling}
-use Rattle.pmb_args.specs.Asked.{Wanted, Show, Check, Json, Build, Run, Profile}
+use Rattle.pmb_cli.specs.Facts.{json_of, log_of}
+use Rattle.pmb_args.specs.Asked.{Wanted, Show, Check, Json, Log, Build, Run, Profile}
 use Rattle.pmb_args.specs.declared.profile_place.ProfilePlace.{ProfilePlace}
 use Rattle.pmb_args.specs.declared.profile_place.ProfilePlace.TheVariants.{Sample, Front}
 
@@ -32,12 +32,13 @@ describing bus = record {
   IsOpen = λ bytes. ⊥;
 }
 
--- What each work is to write under a profile. Only `json` and `profile` look at the addresses that
+-- What each work is to write under a profile. Only `json`, `log` and `profile` look at the addresses that
 -- it ignores.
 abbrev pub working : Wanted → ProfileParts → Job Tally
 working Show bus = showing bus.devices
 working Check bus = checking bus.devices
-working (Json wanted) bus = telling wanted bus
+working (Json wanted) bus = json_of wanted bus
+working (Log wanted) bus = log_of wanted bus
 working Build bus = building bus.devices
 working Run bus = running bus.devices
 working Profile bus = describing bus

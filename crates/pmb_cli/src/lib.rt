@@ -12,8 +12,8 @@
 #![tactic(auto)]
 
 mod bus;
+mod facts;
 pub mod laws;
-mod objects;
 mod profile_fault;
 mod program;
 mod tasks;
@@ -23,12 +23,13 @@ pub use pmb_build::build;
 pub use pmb_capture::{check_capture, show};
 pub use pmb_convert::{FormatFault, NumberFormat, decode_lines, encode_lines, parse_format};
 pub use pmb_decimal::Digits;
+pub use pmb_fact_stream::{Choice, Telling};
 pub use pmb_import::{AddressForm, Rate, Recorder, import};
 pub use pmb_io::{Failing, Io, IoFault, Sink, Source, Tally, ToolFault};
-pub use pmb_json::{AfterBadToken, json};
-pub use pmb_json_stream::Choice;
+pub use pmb_log_lines::Layout;
 pub use pmb_preamble::{Front, front};
 pub use pmb_profile_text::describe;
 pub use pmb_run::run;
+pub use pmb_telling::{AfterBadToken, tell};
 pub use pmb_unknown_start::Start;
 pub use program::{no_words, tool};

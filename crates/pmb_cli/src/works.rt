@@ -1,5 +1,5 @@
-//! What is done under a profile: `pmb show`, `pmb check`, `pmb json`, `pmb build`, `pmb run` and
-//! `pmb profile`, under the sample profile or under the one that comes first in the input.
+//! What is done under a profile: `pmb show`, `pmb check`, `pmb json`, `pmb log`, `pmb build`,
+//! `pmb run` and `pmb profile`, under the sample profile or under the one that comes first in the input.
 //!
 //! Its rows: `tests/rows/preambles.txt`, `captures.txt`, `lines.txt`, `requests.txt`.
 
@@ -13,7 +13,7 @@ ghost use Rattle.pmb_args.specs.Asked.{Run, UnderProfile, wanted_of};
 ghost use Rattle.pmb_args.specs.declared.profile_place.ProfilePlace.TheVariants.{Front, Sample};
 
 use crate::bus::describe_bus;
-use crate::objects::write_json;
+use crate::facts::{write_json, write_log};
 use crate::profile_fault::{explain_profile, report_profile};
 use pmb_args::{ExitStatus, Subcommand, ended, report};
 use pmb_build::build;
@@ -90,6 +90,7 @@ fn do_work<R: Source, W: Sink>(
         Subcommand::Show => show(profile, first, reader, out),
         Subcommand::Check => check_capture(profile, first, reader, out),
         Subcommand::Json(chosen) => write_json(chosen, bus, first, reader, out),
+        Subcommand::Log(chosen) => write_log(chosen, bus, first, reader, out),
         Subcommand::Build => build(profile, first, reader, out),
         Subcommand::Run => run(alloc, profile, first, reader, out),
         Subcommand::Profile => describe_bus(bus, first, reader, out),
@@ -111,6 +112,7 @@ fn report_fault<E: Sink>(
         Subcommand::Show
         | Subcommand::Check
         | Subcommand::Json(_)
+        | Subcommand::Log(_)
         | Subcommand::Build
         | Subcommand::Run => { report_profile(fault, err) }
         Subcommand::Profile => explain_profile(alloc, text, fault, err),

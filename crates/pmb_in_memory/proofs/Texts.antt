@@ -6,11 +6,11 @@ use Rattle.pmb_capture.specs.Check.{Checks, checking}
 use Rattle.pmb_capture.specs.Show.{Shows, showing}
 use Rattle.pmb_command.specs.Parts.{DeviceParts}
 use Rattle.pmb_io.specs.declared.tally.Tally.{Tally}
-use Rattle.pmb_json.specs.Json.{json_job}
-use Rattle.pmb_json.specs.Text.{WritesJson}
+use Rattle.pmb_telling.specs.Tell.{telling_job}
+use Rattle.pmb_telling.specs.Text.{WritesTold}
 use Rattle.pmb_scan.specs.declared.after_bad_token.AfterBadToken.{AfterBadToken}
 use Rattle.pmb_run.specs.Lines.{RunsInput, running}
-use Rattle.pmb_json_stream.specs.Choice.{ChoiceData}
+use Rattle.pmb_fact_stream.specs.Choice.{ChoiceData}
 use Rattle.pmb_in_memory.specs.Whole.{IsText}
 
 module _ (devices : List DeviceParts) (input text : List ℕ) (tally : Tally) where
@@ -30,7 +30,7 @@ module _ (devices : List DeviceParts) (input text : List ℕ) (tally : Tally) wh
   ran (inl whole) = whole
   ran (inr never) = absurd never
 
-  pub told : (choice : ChoiceData) (after : AfterBadToken) → IsText (json_job choice devices after) tally input text
-      → WritesJson choice devices after input text tally
+  pub told : (choice : ChoiceData) (after : AfterBadToken) → IsText (telling_job choice devices after) tally input text
+      → WritesTold choice devices after input text tally
   told choice after (inl whole) = whole
   told choice after (inr stopped) = stopped.writes

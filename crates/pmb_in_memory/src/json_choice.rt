@@ -3,7 +3,7 @@
 //! Its rows: `tests_tasks`, `src/whole.rt`; `tests/rows/json_objects.txt`, flags.
 
 use pmb_decimal::Digits;
-use pmb_json::AfterBadToken;
+use pmb_telling::AfterBadToken;
 use pmb_unknown_start::Start;
 
 /// How the objects of a whole capture are wanted. Which addresses are ignored, its profile says.

@@ -4,9 +4,9 @@ ghost use Rattle.std.specs.Prelude.{◌≡◌, ℕ, List};
 ghost use Rattle.pmb_command.specs.Bus.{IsBus};
 ghost use Rattle.pmb_command.specs.Parts.{DeviceParts};
 ghost use Rattle.pmb_io.specs.declared.tally.Tally.{Tally};
-ghost use Rattle.pmb_json.specs.Json.{json_job};
+ghost use Rattle.pmb_telling.specs.Tell.{telling_job};
 ghost use Rattle.pmb_scan.specs.declared.after_bad_token.AfterBadToken.{AfterBadToken};
-ghost use Rattle.pmb_json_stream.specs.Choice.{ChoiceData};
+ghost use Rattle.pmb_fact_stream.specs.Choice.{ChoiceData};
 ghost use Rattle.pmb_table.specs.Profile.{ProfileParts};
 ghost use Rattle.pmb_in_memory.specs.Whole.{IsText};
 ghost use Rattle.pmb_in_memory.specs.MemoryTask.{working};
@@ -14,8 +14,8 @@ ghost use Rattle.pmb_in_memory.specs.declared.memory_task.MemoryTask.{MemoryTask
 
 use pmb_build::laws::one_building;
 use pmb_capture::laws::{one_check, one_showing};
-use pmb_json::laws::one_json;
 use pmb_run::laws::one_running;
+use pmb_telling::laws::one_text_is_told;
 
 /// The text of an input and its tally are functions of the input, under a profile that is accepted.
 /// So what is written of a whole input is what the subcommand writes that reads it in pieces.
@@ -23,11 +23,11 @@ pub fn one_text()
     ensures work { (work : MemoryTask) (bus : ProfileParts) (input a b : List ℕ) (s t : Tally) → IsBus bus.devices
         → IsText (working work bus) s input a → IsText (working work bus) t input b → (a ≡ b) × (s ≡ t) }
     ensures json { (choice : ChoiceData) (after : AfterBadToken) (devices : List DeviceParts) (input a b : List ℕ) (s t : Tally) → IsBus devices
-        → IsText (json_job choice devices after) s input a → IsText (json_job choice devices after) t input b → (a ≡ b) × (s ≡ t) }
+        → IsText (telling_job choice devices after) s input a → IsText (telling_job choice devices after) t input b → (a ≡ b) × (s ≡ t) }
 {
     one_showing();
     one_check();
     one_building();
     one_running();
-    one_json();
+    one_text_is_told();
 }

@@ -14,12 +14,12 @@ use crate::json_choice::JsonChoice;
 use crate::memory_task::MemoryTask;
 use pmb_build::build;
 use pmb_capture::{check_capture, show};
+use pmb_fact_stream::{Choice, Telling};
 use pmb_io::{Empty, Sink, Tally, ToolFault};
-use pmb_json::json;
-use pmb_json_stream::Choice;
 use pmb_run::run;
 use pmb_table::BusProfile;
 use pmb_table::laws::accepted_bus;
+use pmb_telling::tell;
 use std::alloc::Global;
 
 /// Writes what the work's subcommand writes of an input under a profile, and answers its tally.
@@ -118,8 +118,9 @@ fn json_under<W: Sink>(
         start: choice.start,
         devices,
         ignored: bus.ignored(),
+        telling: Telling::Objects,
     };
-    json(
+    tell(
         bus.profile(),
         chosen,
         choice.bad_words,

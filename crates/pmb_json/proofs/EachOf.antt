@@ -1,8 +1,8 @@
 -- What holds of each element of a list holds of each one that is taken of it: filtered, found, at
--- an index, in a part. For the law `each_line_is_json`, by JsonLines and Fitting, which go from a
+-- an index, in a part, among the first. For the law `each_line_is_json`, by JsonLines and Fitting, which go from a
 -- profile's devices and a capture's packets to their objects. By induction over the list.
 use Rattle.std.proofs.Common.{ℕ, zero, suc, Bool, true, false, if◌then◌else◌, Option, Some, None, List, [], ◌∷◌, ◌++◌}
-use Rattle.std.proofs.Common.{filter, slice_index_or}
+use Rattle.std.proofs.Common.{filter, slice_index_or, take}
 use Rattle.std.specs.Prelude.{IfSome}
 use Rattle.std.specs.List.{AllByRecursion, find}
 
@@ -23,6 +23,11 @@ module _ {A : Type 0} (P : A → Type 0) where
   pub each_of_second : (xs ys : List A) → AllByRecursion P (xs ++ ys) → AllByRecursion P ys
   each_of_second [] ys all = all
   each_of_second (x ∷ xs) ys all = each_of_second xs ys all.1
+
+  pub each_taken : (n : ℕ) (xs : List A) → AllByRecursion P xs → AllByRecursion P (take n xs)
+  each_taken zero xs all = tt
+  each_taken (suc n) [] all = tt
+  each_taken (suc n) (x ∷ xs) all = (all.0, each_taken n xs all.1)
 
   pub each_filtered : (test : A → Bool) (xs : List A) → AllByRecursion P xs → AllByRecursion P (filter test xs)
   each_filtered test [] all = tt

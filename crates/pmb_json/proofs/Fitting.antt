@@ -11,8 +11,8 @@ use Rattle.pmb_json.specs.Lines.{AllMakeFormats, MakesFormats}
 use Rattle.pmb_json_text.specs.Spelling.{AreBytes}
 use Rattle.pmb_json_objects.specs.Laws.{AreOfWords, AreParts, HasFormats, IsData, IsOfWords, IsSeen, IsTransaction}
 use Rattle.pmb_json_objects.specs.Seen.{entry_of}
-use Rattle.pmb_json_stream.specs.Choice.{ChoiceData}
-use Rattle.pmb_json_stream.specs.Spans.{seen_behind}
+use Rattle.pmb_fact_stream.specs.Choice.{ChoiceData}
+use Rattle.pmb_fact_stream.specs.Lines.{seen_behind}
 use Rattle.pmb_transaction.specs.Packet.{Packet}
 use Rattle.pmb_transaction.specs.Transaction.{PartData, TransactionData, Write, Read, Call, Refused, Alert, NoAlert}
 use Rattle.pmb_json.proofs.EachOf.{the_found}

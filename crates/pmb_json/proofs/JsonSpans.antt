@@ -1,4 +1,4 @@
--- The objects of packets and refusals are JSON objects with distinct keys. For the law
+-- The objects of facts of packets and refusals are JSON objects with distinct keys. For the law
 -- `each_line_is_json`. Laws of lower crates say it of one object (`Below`); here it is shown that
 -- what is counted, placed and said fits their premises.
 use Rattle.std.proofs.Common.{ℕ, ◌+◌, ◌-◌, Bool, Option, Some, None, List, [], ◌∷◌, ◌++◌, length, sym, subst, arith}
@@ -10,7 +10,10 @@ use Rattle.pmb_command.specs.Bus.{IsBus}
 use Rattle.pmb_command.specs.Parts.{DeviceParts}
 use Rattle.pmb_io.specs.Count.{capped}
 use Rattle.pmb_json.specs.Lines.{AllMakeFormats}
-use Rattle.pmb_json.specs.Text.{text_objects}
+use Rattle.pmb_json.specs.Objects.{objects_of}
+use Rattle.pmb_telling.specs.Text.{text_facts}
+use Rattle.pmb_facts.specs.Fact.{FactData}
+use Rattle.pmb_facts.specs.Packets.{packet_facts}
 use Rattle.pmb_json_text.specs.Spelling.{AreBytes}
 use Rattle.pmb_json_objects.specs.BadToken.{bad_token_object}
 use Rattle.pmb_json_objects.specs.Counts.{CountsData, end_objects}
@@ -25,12 +28,13 @@ use Rattle.pmb_places.specs.declared.places.Place.{Place}
 use Rattle.pmb_places.specs.Text.{end_of_last_word, place_behind, places_from}
 use Rattle.pmb_partial_packet.specs.PartialPacket.{written_to}
 use Rattle.pmb_spans.specs.Spans.{Span, ReadSpan, RefusedSpan, TruncatedSpan, SpansFrom}
-use Rattle.pmb_json_stream.specs.Before.{Before}
-use Rattle.pmb_json_stream.specs.Choice.{ChoiceData}
-use Rattle.pmb_json_stream.specs.Others.{other_address}
-use Rattle.pmb_json_stream.specs.Spans.{event_place, event_time, other_or, refused_span, seen_behind, span_objects}
-use Rattle.pmb_json_stream.specs.Spans.{transactions_in}
-use Rattle.pmb_json_stream.specs.UnderWay.{open_time, time_of_some, under_way, up_to_stop}
+use Rattle.pmb_fact_stream.specs.Before.{Before}
+use Rattle.pmb_fact_stream.specs.Choice.{ChoiceData}
+use Rattle.pmb_fact_stream.specs.Others.{other_address}
+use Rattle.pmb_fact_stream.specs.Lines.{seen_behind}
+use Rattle.pmb_fact_stream.specs.Spans.{event_place, event_time, other_or, refused_span, span_facts}
+use Rattle.pmb_fact_stream.specs.Spans.{transactions_in}
+use Rattle.pmb_fact_stream.specs.UnderWay.{open_time, time_of_some, under_way, up_to_stop}
 use Rattle.pmb_times.specs.Line.{IsTime as IsPlainTime}
 use Rattle.pmb_times.specs.Times.{time_at}
 use Rattle.pmb_transaction.specs.declared.reason.Reason.{Reason}
@@ -39,6 +43,7 @@ use Rattle.pmb_transaction.specs.Reading.{RefusalData}
 use Rattle.pmb_transaction.specs.Transaction.{TransactionData}
 use Rattle.pmb_json.proofs.EachOf.{each_of_both, of_any, the_one_at}
 use Rattle.pmb_json.proofs.Fitting.{device_is_seen, packet_fits}
+use Rattle.pmb_json.proofs.Objects.{PacketsHaveObjects, each_of_both_facts, packet_is}
 use Rattle.pmb_json.proofs.Telling.{AllTellBytes, TellsBytes, packets_tell_bytes}
 use Rattle.pmb_json.proofs.TimeBytes.{times_have_bytes}
 
@@ -50,6 +55,8 @@ AreJson objects = AllByRecursion IsJson objects
 
 -- what laws of lower crates say
 pub record Below : Type 0 where
+  -- the objects of a packet are those of its facts
+  pub packets : PacketsHaveObjects
   -- of the objects of a packet, a refusal, a bad word, and of the last ones
   pub packet : (seen : SeenData) (place : ℕ → Place) (time : Option (List ℕ)) (n : ℕ) (events : List Event)
       (t : TransactionData) → ((at : ℕ) → IsPlace (place at)) → IsTime time → IsTransaction seen t
@@ -131,62 +138,74 @@ module _ (profile : List DeviceParts) where
 
 -- ---- their objects
 
+-- the objects of facts
+abbrev pub TellJson : ChoiceData → List DeviceParts → List FactData → Type 0
+TellJson choice profile facts = AreJson (objects_of choice profile facts)
+
 module _ (below : Below) (choice : ChoiceData) (profile : List DeviceParts) (bus : IsBus profile)
     (formats : AllMakeFormats profile) where
   module _ (place : ℕ → Place) (placed : (at : ℕ) → IsPlace (place at)) (times : ℕ → Option (List ℕ))
       (timed : (at : ℕ) → IsTime (times at)) where
     refusal_is_json : (before : List TransactionData) → AllTellBytes before
         → (n : ℕ) (front : List Event) (event : Option Event) (refusal : RefusalData)
-        → IsJsonObject (refused_span choice profile place times before n front event refusal).members
+        → TellJson choice profile (refused_span place times before n front event refusal ∷ [])
     refusal_is_json before tell n front event refusal =
-        let at = n + length front in
-        below.refusal (seen_behind choice profile before) (head_at place (times n) at) front event refusal.reason
-        refusal.expected (record { at = few at; place = placed at; time = timed n }) bus
-        (of_any (IsSeen (seen_behind choice profile before)) (written_to front)
-        (device_is_seen choice profile bus formats before tell))
+        let at = n + length front in (
+          below.refusal (seen_behind choice profile before) (head_at place (times n) at) front event refusal.reason
+              refusal.expected (record { at = few at; place = placed at; time = timed n }) bus
+              (of_any (IsSeen (seen_behind choice profile before)) (written_to front)
+              (device_is_seen choice profile bus formats before tell)),
+          tt,
+        )
 
-    -- an other, or these objects
-    either_is_json : (n : ℕ) (addr : Option ℕ) (objects : List Object) → AreJson objects
-        → AreJson (other_or choice profile place times n addr objects)
-    either_is_json n None objects are = are
-    either_is_json n (Some addr) objects are = (
+    -- an other, or these facts
+    either_is_json : (n : ℕ) (addr : Option ℕ) (facts : List FactData) → TellJson choice profile facts
+        → TellJson choice profile (other_or place times n addr facts)
+    either_is_json n None facts are = are
+    either_is_json n (Some addr) facts are = (
       below.other (head_at place (times n) (n + 1)) addr
           (record { at = few (n + 1); place = placed (n + 1); time = timed n }),
       tt,
     )
 
-    objects_are_json : (before : List TransactionData) → AllTellBytes before → (spans : List Span)
-        → AllSayPackets profile spans → AreJson (span_objects choice profile place times before spans)
-    objects_are_json before tell [] say = tt
-    objects_are_json before tell (ReadSpan n events t ∷ spans) say =
-        let own = packet_objects (seen_behind choice profile before) place (times n) n events t in
-        let addr = other_address choice.ignored events in
-        each_of_both IsJson (other_or choice profile place times n addr own)
-        (span_objects choice profile place times (before ++ t ∷ []) spans)
-        (either_is_json n addr own
+    packet_is_json : (before : List TransactionData) → AllTellBytes before → (n : ℕ) (events : List Event)
+        (t : TransactionData) → Packet profile t events → TellJson choice profile
+        (packet_facts before place (times n) n events t)
+    packet_is_json before tell n events t packet =
+        subst AreJson (sym (packet_is choice profile before place (times n) below.packets n events t))
         (below.packet (seen_behind choice profile before) place (times n) n events t placed (timed n)
-        (packet_fits choice profile bus formats before tell t events say.0)))
-        (objects_are_json (before ++ t ∷ []) (each_of_both TellsBytes before (t ∷ []) tell
+        (packet_fits choice profile bus formats before tell t events packet))
+
+    facts_are_json : (before : List TransactionData) → AllTellBytes before → (spans : List Span)
+        → AllSayPackets profile spans → TellJson choice profile (span_facts choice.ignored place times before spans)
+    facts_are_json before tell [] say = tt
+    facts_are_json before tell (ReadSpan n events t ∷ spans) say =
+        let own = packet_facts before place (times n) n events t in
+        let addr = other_address choice.ignored events in
+        each_of_both_facts choice profile IsJson (other_or place times n addr own)
+        (span_facts choice.ignored place times (before ++ t ∷ []) spans)
+        (either_is_json n addr own (packet_is_json before tell n events t say.0))
+        (facts_are_json (before ++ t ∷ []) (each_of_both TellsBytes before (t ∷ []) tell
         (packets_tell_bytes profile t events say.0, tt)) spans say.1)
-    objects_are_json before tell (RefusedSpan n front event refusal ∷ spans) say =
-        let own = refused_span choice profile place times before n front (Some event) refusal ∷ [] in
+    facts_are_json before tell (RefusedSpan n front event refusal ∷ spans) say =
+        let own = refused_span place times before n front (Some event) refusal ∷ [] in
         let addr = other_address choice.ignored (front ++ event ∷ []) in
-        each_of_both IsJson (other_or choice profile place times n addr own)
-        (span_objects choice profile place times before spans)
-        (either_is_json n addr own (refusal_is_json before tell n front (Some event) refusal, tt))
-        (objects_are_json before tell spans say.1)
-    objects_are_json before tell (TruncatedSpan n front refusal ∷ spans) say =
-        let own = refused_span choice profile place times before n front None refusal ∷ [] in
+        each_of_both_facts choice profile IsJson (other_or place times n addr own)
+        (span_facts choice.ignored place times before spans)
+        (either_is_json n addr own (refusal_is_json before tell n front (Some event) refusal))
+        (facts_are_json before tell spans say.1)
+    facts_are_json before tell (TruncatedSpan n front refusal ∷ spans) say =
+        let own = refused_span place times before n front None refusal ∷ [] in
         let addr = other_address choice.ignored front in
-        each_of_both IsJson (other_or choice profile place times n addr own)
-        (span_objects choice profile place times before spans)
-        (either_is_json n addr own (refusal_is_json before tell n front None refusal, tt))
-        (objects_are_json before tell spans say.1)
+        each_of_both_facts choice profile IsJson (other_or place times n addr own)
+        (span_facts choice.ignored place times before spans)
+        (either_is_json n addr own (refusal_is_json before tell n front None refusal))
+        (facts_are_json before tell spans say.1)
 
   -- of a text that stands after what was read
   pub spans_are_json : (b : Before) (text : List ℕ) (before : List TransactionData) → AllTellBytes before
       → (spans : List Span) → AllSayPackets profile spans
-      → AreJson (text_objects choice profile b text before spans)
+      → TellJson choice profile (text_facts choice.ignored b text before spans)
   spans_are_json b text before tell spans say =
-      objects_are_json (event_place b.read b.n text) (events_are_placed below b.read b.n text)
+      facts_are_json (event_place b.read b.n text) (events_are_placed below b.read b.n text)
       (event_time b.n text) (λ at. times_fit below text (at - b.n)) before tell spans say

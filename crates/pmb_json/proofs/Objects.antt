@@ -1,160 +1,159 @@
--- The objects and counts of lists of spans: one list after another, and spans that are moved by a
--- number of events. For `put_last_word`, the law `moved_spans_count_the_same`, and all files here
--- that join lists. Moving a span changes where its events are counted, and neither its transaction
--- nor whether it is told.
-use Rattle.std.proofs.Common.{◌≡◌, ◌||◌, ℕ, Bool, true, false, cond, Option, Some, None, List, [], ◌∷◌, ◌++◌, filter}
-use Rattle.std.proofs.Common.{refl, sym}
-use Rattle.std.proofs.Common.{ap, ◌∙◌}
-use Rattle.std.proofs.Common.{append_assoc, append-nil}
+-- The objects of facts: of two lists, of a packet, and their lines. For the law `json_is_the_objects`,
+-- and for JsonSpans and Pieces, which go from objects of packets to those of facts. Facts of one packet
+-- have the same transactions before them, so what is known where it begins is known to each.
+use Rattle.std.proofs.Common.{◌≡◌, ℕ, ◌+◌, Bool, true, false, cond, Option, List, [], ◌∷◌, ◌++◌, filter, flat_map}
+use Rattle.std.proofs.Common.{length, map, take, drop, refl, sym, ap, ◌∙◌}
+use Rattle.std.specs.List.{AllByRecursion}
 use Rattle.std.proofs.lemmas.Grind.{flat_map-append}
-use Rattle.std.specs.List.{All}
-use Rattle.std.proofs.lemmas.List.Elements.{All-head, All-tail, filter-append}
-use Rattle.std.proofs.lemmas.List.Sums.{fold-append}
+use Rattle.std.proofs.lemmas.List.{map-append}
+use Rattle.std.proofs.lemmas.List.Elements.{filter-append}
 use Rattle.pmb_bus.specs.declared.event.Event.{Event}
 use Rattle.pmb_command.specs.Parts.{DeviceParts}
-use Rattle.pmb_json_objects.specs.Counts.{CountsData}
-use Rattle.pmb_json_objects.specs.Object.{Object, object_lines}
-use Rattle.pmb_json_objects.specs.Packets.{packet_objects}
+use Rattle.pmb_facts.specs.Fact.{FactData, WhatData, fact_device}
+use Rattle.pmb_facts.specs.Fact as kinds
+use Rattle.pmb_facts.specs.Object.{object_in, object_of}
+use Rattle.pmb_facts.specs.Packets.{fact_at, packet_facts, refused_fact, write_facts}
+use Rattle.pmb_fact_stream.specs.Choice.{ChoiceData, gives_others}
+use Rattle.pmb_fact_stream.specs.Lines.{fact_line, fact_lines, is_wanted_fact, last_lines, last_lines_of, seen_behind}
+use Rattle.pmb_fact_stream.specs.Lines.{told_line}
+use Rattle.pmb_fact_stream.specs.declared.telling.Telling.{Telling}
+use Rattle.pmb_fact_stream.specs.declared.telling.Telling.TheVariants.{Objects}
+use Rattle.pmb_json_objects.specs.Counts.{CountsData, end_objects}
+use Rattle.pmb_json_objects.specs.Head.{Head}
+use Rattle.pmb_json_objects.specs.Object.{Object, is_wanted, object_lines}
+use Rattle.pmb_json_objects.specs.Packets.{packet_objects, starts}
+use Rattle.pmb_json_objects.specs.Seen.{SeenData}
+use Rattle.pmb_json_text.specs.Member.{object_line}
 use Rattle.pmb_places.specs.declared.places.Place.{Place}
-use Rattle.pmb_spans.specs.Spans.{Span, ReadSpan, RefusedSpan, TruncatedSpan, is_whole, moved_span, moved_spans}
-use Rattle.pmb_json_stream.specs.Choice.{ChoiceData}
-use Rattle.pmb_json_stream.specs.Others.{is_other, is_told, other_address, span_events}
-use Rattle.pmb_json_stream.specs.Spans.{after_either, after_reported, after_span, after_spans, other_or, refused_span}
-use Rattle.pmb_json_stream.specs.Spans.{seen_behind, span_objects, transactions_in}
-use Rattle.pmb_transaction.specs.Transaction.{TransactionData}
+use Rattle.pmb_transaction.specs.Transaction.{PartData, RefusedData, TransactionData}
+use Rattle.pmb_transaction.specs.Transaction.{Write, Read, Call, Refused, Alert, NoAlert}
+use Rattle.pmb_json.specs.Objects.{objects_of}
+
+-- ---- lists
+
+module _ (choice : ChoiceData) (profile : List DeviceParts) where
+  -- that of one fact
+  abbrev pub own_object : FactData → Object
+  own_object fact = object_in (seen_behind choice profile fact.before) fact
+
+  -- what holds of the objects of two lists holds of those of both
+  pub each_of_both_facts : (P : Object → Type 0) (a b : List FactData) → AllByRecursion P (objects_of choice profile a)
+      → AllByRecursion P (objects_of choice profile b) → AllByRecursion P (objects_of choice profile (a ++ b))
+  each_of_both_facts P [] b first second = second
+  each_of_both_facts P (fact ∷ a) b first second = (first.0, each_of_both_facts P a b first.1 second)
+
+-- ---- packets
+
+-- what the law `objects_are_of_facts` says
+abbrev pub PacketsHaveObjects : Type 0
+PacketsHaveObjects = (seen : SeenData) (place : ℕ → Place) (time : Option (List ℕ)) (n : ℕ) (events : List Event)
+    (t : TransactionData) → map (object_in seen) (packet_facts seen.before place time n events t)
+    ≡ packet_objects seen place time n events t
+
+module _ (choice : ChoiceData) (profile : List DeviceParts) (before : List TransactionData) (place : ℕ → Place)
+    (time : Option (List ℕ)) where
+  abbrev here : FactData → Object
+  here = object_in (seen_behind choice profile before)
+
+  writes_here : (part parts : ℕ) (ats : List ℕ) (ps : List PartData)
+      → objects_of choice profile (write_facts before place time part parts ats ps)
+      ≡ map here (write_facts before place time part parts ats ps)
+  writes_here part parts ats [] = refl
+  writes_here part parts [] (p ∷ ps) = refl
+  writes_here part parts (at ∷ ats) (p ∷ ps) =
+      ap (λ (os : List Object). here (fact_at before place time at (kinds.Write part parts p)) ∷ os)
+      (writes_here (part + 1) parts ats ps)
+
+  legs_here : (t : RefusedData) (ats : List ℕ)
+      → objects_of choice profile (map (refused_fact before place time t) ats)
+      ≡ map here (map (refused_fact before place time t) ats)
+  legs_here t [] = refl
+  legs_here t (at ∷ ats) = ap (λ (os : List Object). here (refused_fact before place time t at) ∷ os) (legs_here t ats)
+
+  refused_here : (t : RefusedData) (ats legs : List ℕ)
+      → objects_of choice profile (write_facts before place time 1 (length t.parts + 1) ats t.parts
+      ++ map (refused_fact before place time t) legs)
+      ≡ map here (write_facts before place time 1 (length t.parts + 1) ats t.parts
+      ++ map (refused_fact before place time t) legs)
+  refused_here t ats legs =
+      let parts = write_facts before place time 1 (length t.parts + 1) ats t.parts in
+      let leg = map (refused_fact before place time t) legs in
+      map-append (own_object choice profile) parts leg
+      ∙ ap (λ (os : List Object). os ++ objects_of choice profile leg) (writes_here 1 (length t.parts + 1) ats t.parts)
+      ∙ ap (λ (os : List Object). map here parts ++ os) (legs_here t legs)
+      ∙ sym (map-append here parts leg)
+
+  packet_here : (n : ℕ) (events : List Event) (t : TransactionData)
+      → objects_of choice profile (packet_facts before place time n events t)
+      ≡ map here (packet_facts before place time n events t)
+  packet_here n events (Write parts) = writes_here 1 (length parts) (starts n events) parts
+  packet_here n events (Read t) = refl
+  packet_here n events (Call t) = refl
+  packet_here n events (Refused t) =
+      refused_here t (starts n events) (take 1 (drop (length t.parts) (starts n events)))
+  packet_here n events (Alert t) = refl
+  packet_here n events NoAlert = refl
+
+  -- the objects of a packet's facts are those of the packet
+  pub packet_is : PacketsHaveObjects → (n : ℕ) (events : List Event) (t : TransactionData)
+      → objects_of choice profile (packet_facts before place time n events t)
+      ≡ packet_objects (seen_behind choice profile before) place time n events t
+  packet_is have n events t =
+      packet_here n events t ∙ have (seen_behind choice profile before) place time n events t
 
 -- ---- lines
 
-pub lines_append : (devices : List ℕ) (a b : List Object) → object_lines devices (a ++ b) ≡ object_lines devices a
-    ++ object_lines devices b
-lines_append devices a b = simp (filter-append, flat_map-append)
+-- what the law `objects_name_the_device` says
+abbrev pub ObjectsNameTheDevice : Type 0
+ObjectsNameTheDevice = (seen : SeenData) (head : Head) (what : WhatData)
+    → (object_of seen head what).device ≡ fact_device what
 
--- ---- spans moved
+-- a line that goes out or doesn't, and those after it
+line_then : {A B : Type 0} (wanted : Bool) (f : A → List ℕ) (g : B → List ℕ) (x : A) (y : B) (xs : List A) (ys : List B)
+    → f x ≡ g y → flat_map f xs ≡ flat_map g ys
+    → flat_map f (cond wanted (x ∷ xs) xs) ≡ flat_map g (cond wanted (y ∷ ys) ys)
+line_then true f g x y xs ys first rest =
+    ap (λ (l : List ℕ). l ++ flat_map f xs) first ∙ ap (λ (l : List ℕ). g y ++ l) rest
+line_then false f g x y xs ys first rest = rest
 
-pub transactions_moved : (n : ℕ) (spans : List Span) → transactions_in (moved_spans n spans) ≡ transactions_in spans
-transactions_moved n [] = refl
-transactions_moved n (ReadSpan m events t ∷ spans) = ap (λ (ts : List TransactionData). t ∷ ts)
-    (transactions_moved n spans)
-transactions_moved n (RefusedSpan m front event refusal ∷ spans) = transactions_moved n spans
-transactions_moved n (TruncatedSpan m front refusal ∷ spans) = transactions_moved n spans
+objects_append : (devices : List ℕ) (a b : List Object)
+    → object_lines devices (a ++ b) ≡ object_lines devices a ++ object_lines devices b
+objects_append devices a b =
+    ap (flat_map (λ (object : Object). object_line object.members))
+    (filter-append (λ (object : Object). is_wanted devices object.device) a b)
+    ∙ flat_map-append (λ (object : Object). object_line object.members)
+    (filter (λ (object : Object). is_wanted devices object.device) a)
+    (filter (λ (object : Object). is_wanted devices object.device) b)
 
-pub transactions_append : (a b : List Span) → transactions_in (a ++ b) ≡ transactions_in a ++ transactions_in b
-transactions_append [] b = refl
-transactions_append (ReadSpan m events t ∷ a) b = ap (λ (ts : List TransactionData). t ∷ ts) (transactions_append a b)
-transactions_append (RefusedSpan m front event refusal ∷ a) b = transactions_append a b
-transactions_append (TruncatedSpan m front refusal ∷ a) b = transactions_append a b
+module _ (name : ObjectsNameTheDevice) (choice : ChoiceData) (profile : List DeviceParts)
+    (is : choice.telling ≡ Objects) where
+  abbrev wanted : Object → Bool
+  wanted object = is_wanted choice.devices object.device
 
--- where these addresses are ignored
-module _ (ignored : Option (List ℕ)) where
-  -- a span's events are the same where it is moved
-  events_moved : (n : ℕ) (span : Span) → span_events (moved_span n span) ≡ span_events span
-  events_moved n (ReadSpan m events t) = refl
-  events_moved n (RefusedSpan m front event refusal) = refl
-  events_moved n (TruncatedSpan m front refusal) = refl
+  abbrev line : Object → List ℕ
+  line object = object_line object.members
 
-  reported_moved : (c : CountsData) (n : ℕ) (span : Span)
-      → after_reported c (moved_span n span) ≡ after_reported c span
-  reported_moved c n (ReadSpan m events t) = refl
-  reported_moved c n (RefusedSpan m front event refusal) = refl
-  reported_moved c n (TruncatedSpan m front refusal) = refl
+  pub lines_are : (facts : List FactData)
+      → fact_lines choice profile facts ≡ object_lines choice.devices (objects_of choice profile facts)
+  lines_are [] = refl
+  lines_are (fact ∷ facts) =
+      let seen = seen_behind choice profile fact.before in
+      let object = own_object choice profile fact in
+      let others = filter wanted (objects_of choice profile facts) in
+      line_then (is_wanted choice.devices (fact_device fact.what)) (fact_line choice profile) line fact object
+      (filter (is_wanted_fact choice profile) facts) others
+      (ap (λ (t : Telling). told_line t seen fact.head fact.what) is) (lines_are facts)
+      ∙ ap (λ (device : Option ℕ). flat_map line (cond (is_wanted choice.devices device) (object ∷ others) others))
+      (sym (name seen fact.head fact.what))
 
-  either_moved : (c : CountsData) (n : ℕ) (addr : Option ℕ) (span : Span)
-      → after_either c addr (moved_span n span) ≡ after_either c addr span
-  either_moved c n None span = reported_moved c n span
-  either_moved c n (Some addr) span = refl
-
-  count_moved : (c : CountsData) (n : ℕ) (span : Span)
-      → after_span ignored c (moved_span n span) ≡ after_span ignored c span
-  count_moved c n span =
-      either_moved c n (other_address ignored (span_events (moved_span n span))) span
-      ∙ ap (λ (events : List Event). after_either c (other_address ignored events) span) (events_moved n span)
-
-  pub counts_moved : (c : CountsData) (n : ℕ) (spans : List Span) → after_spans ignored c (moved_spans n spans)
-      ≡ after_spans ignored c spans
-  counts_moved c n [] = refl
-  counts_moved c n (span ∷ spans) =
-      ap (λ (d : CountsData). after_spans ignored d (moved_spans n spans)) (count_moved c n span)
-      ∙ counts_moved (after_span ignored c span) n spans
-
-  pub counts_append : (c : CountsData) (a b : List Span)
-      → after_spans ignored c (a ++ b) ≡ after_spans ignored (after_spans ignored c a) b
-  counts_append c a b = fold-append (after_span ignored) c a b
-
-  told_moved_one : (n : ℕ) (span : Span) → is_told ignored (moved_span n span) ≡ is_told ignored span
-  told_moved_one n (ReadSpan m events t) = refl
-  told_moved_one n (RefusedSpan m front event refusal) = refl
-  told_moved_one n (TruncatedSpan m front refusal) = refl
-
-  moved_if : (n : ℕ) (span : Span) (spans : List Span) (told : Bool)
-      → cond told (moved_span n span ∷ moved_spans n spans) (moved_spans n spans)
-      ≡ moved_spans n (cond told (span ∷ spans) spans)
-  moved_if n span spans true = refl
-  moved_if n span spans false = refl
-
-  -- and so is whether it is told
-  pub told_moved : (n : ℕ) (spans : List Span) → filter (is_told ignored) (moved_spans n spans)
-      ≡ moved_spans n (filter (is_told ignored) spans)
-  told_moved n [] = refl
-  told_moved n (span ∷ spans) =
-      let rest = filter (is_told ignored) (moved_spans n spans) in
-      ap (λ (told : Bool). cond told (moved_span n span ∷ rest) rest) (told_moved_one n span)
-      ∙ (ap (λ (l : List Span). cond (is_told ignored span) (moved_span n span ∷ l) l) (told_moved n spans)
-      ∙ moved_if n span (filter (is_told ignored) spans) (is_told ignored span))
-
-  -- an end inside a packet is no transaction, whether it is told or not
-  tells_none_if : (span : Span) (spans : List Span) (told : Bool) → transactions_in (span ∷ []) ≡ []
-      → transactions_in spans ≡ [] → transactions_in (cond told (span ∷ spans) spans) ≡ []
-  tells_none_if span spans true own none =
-      transactions_append (span ∷ []) spans ∙ (ap (λ (ts : List TransactionData). ts ++ transactions_in spans) own
-      ∙ none)
-  tells_none_if span spans false own none = none
-
-  pub ends_tell_none : (last : List Span) → filter is_whole last ≡ []
-      → transactions_in (filter (is_told ignored) last) ≡ []
-  ends_tell_none [] inside = refl
-  ends_tell_none (ReadSpan m events t ∷ last) inside = absurd (cc inside)
-  ends_tell_none (RefusedSpan m front event refusal ∷ last) inside = absurd (cc inside)
-  ends_tell_none (TruncatedSpan m front refusal ∷ last) inside =
-      tells_none_if (TruncatedSpan m front refusal) (filter (is_told ignored) last)
-      (is_told ignored (TruncatedSpan m front refusal)) refl (ends_tell_none last inside)
-
--- spans that are whole are all told
-pub all_told : (ignored : Option (List ℕ)) (spans : List Span) → All (λ span. is_whole span ≡ true) spans
-    → filter (is_told ignored) spans ≡ spans
-all_told ignored [] whole = refl
-all_told ignored (span ∷ spans) whole =
-    let rest = all_told ignored spans (All-tail (λ (s : Span). is_whole s ≡ true) span spans whole) in
-    let others = filter (is_told ignored) spans in
-    ap (λ (b : Bool). cond (b || is_other ignored span) (span ∷ others) others)
-    (All-head (λ (s : Span). is_whole s ≡ true) span spans whole)
-    ∙ ap (λ (l : List Span). span ∷ l) rest
-
--- ---- objects
-
-module _ (choice : ChoiceData) (profile : List DeviceParts) (place : ℕ → Place) (times : ℕ → Option (List ℕ)) where
-  pub objects_append : (before : List TransactionData) (a b : List Span)
-      → span_objects choice profile place times before (a ++ b) ≡ span_objects choice profile place times before a
-      ++ span_objects choice profile place times (before ++ transactions_in a) b
-  objects_append before [] b = ap (λ (ts : List TransactionData). span_objects choice profile place times ts b)
-      (sym (append-nil before))
-  objects_append before (ReadSpan n events t ∷ a) b =
-      let own = other_or choice profile place times n (other_address choice.ignored events)
-      (packet_objects (seen_behind choice profile before) place (times n) n events t) in
-      ap (λ (l : List Object). own ++ l)
-      (objects_append (before ++ t ∷ []) a b
-      ∙ ap (λ (ts : List TransactionData). span_objects choice profile place times (before ++ t ∷ []) a
-      ++ span_objects choice profile place times ts b) (append_assoc before (t ∷ []) (transactions_in a)))
-      ∙ sym (append_assoc own (span_objects choice profile place times (before ++ t ∷ []) a)
-      (span_objects choice profile place times (before ++ t ∷ transactions_in a) b))
-  objects_append before (RefusedSpan n front event refusal ∷ a) b =
-      let own = other_or choice profile place times n (other_address choice.ignored (front ++ event ∷ []))
-      (refused_span choice profile place times before n front (Some event) refusal ∷ []) in
-      ap (λ (l : List Object). own ++ l) (objects_append before a b)
-      ∙ sym (append_assoc own (span_objects choice profile place times before a)
-      (span_objects choice profile place times (before ++ transactions_in a) b))
-  objects_append before (TruncatedSpan n front refusal ∷ a) b =
-      let own = other_or choice profile place times n (other_address choice.ignored front)
-      (refused_span choice profile place times before n front None refusal ∷ []) in
-      ap (λ (l : List Object). own ++ l) (objects_append before a b)
-      ∙ sym (append_assoc own (span_objects choice profile place times before a)
-      (span_objects choice profile place times (before ++ transactions_in a) b))
+  -- and the last ones
+  pub lines_with_last : (facts : List FactData) (counts : CountsData)
+      → fact_lines choice profile facts ++ last_lines choice profile counts
+      ≡ object_lines choice.devices (objects_of choice profile facts ++ end_objects profile
+      (gives_others choice) counts)
+  lines_with_last facts counts =
+      let objects = objects_of choice profile facts in
+      let last = end_objects profile (gives_others choice) counts in
+      ap (λ (l : List ℕ). l ++ last_lines choice profile counts) (lines_are facts)
+      ∙ ap (λ (t : Telling). object_lines choice.devices objects ++ last_lines_of choice profile t counts) is
+      ∙ sym (objects_append choice.devices objects last)

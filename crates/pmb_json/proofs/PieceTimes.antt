@@ -12,8 +12,8 @@ use Rattle.pmb_bus.specs.Event.{event_of}
 use Rattle.pmb_bus.specs.Text.{Spells, words}
 use Rattle.pmb_transaction.specs.Cut.{EndsWithStop}
 use Rattle.pmb_times.specs.Times.{time_at}
-use Rattle.pmb_json_stream.specs.Spans.{event_time}
-use Rattle.pmb_json_stream.specs.UnderWay.{more_under_way, open_time, time_of_some, under_way, up_to_stop}
+use Rattle.pmb_fact_stream.specs.Spans.{event_time}
+use Rattle.pmb_fact_stream.specs.UnderWay.{more_under_way, open_time, time_of_some, under_way, up_to_stop}
 use Rattle.pmb_json.specs.Pieces.{Timing, TellsNoMore}
 use Rattle.pmb_json.proofs.PieceMembers.{TellEach, Tells}
 

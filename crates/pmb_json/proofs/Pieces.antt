@@ -26,7 +26,7 @@ use Rattle.pmb_transaction.specs.declared.reason.Reason.{Reason}
 use Rattle.pmb_transaction.specs.Names.{kind_names, reason_name}
 use Rattle.pmb_transaction.specs.Transaction.{PartData, ReadData, CallData, RefusedData, AlertData, TransactionData}
 use Rattle.pmb_transaction.specs.Transaction.{Write, Read, Call, Refused, Alert, NoAlert}
-use Rattle.pmb_json_stream.specs.Choice.{ChoiceData}
+use Rattle.pmb_fact_stream.specs.Choice.{ChoiceData}
 use Rattle.pmb_json_objects.specs.BadToken.{bad_token_object}
 use Rattle.pmb_json_objects.specs.Head.{Head, head_at}
 use Rattle.pmb_json_objects.specs.Members.{code_member, command_members, device_member, device_members}
@@ -37,13 +37,18 @@ use Rattle.pmb_json_objects.specs.Packets.{alert_object, call_object, data_of, d
 use Rattle.pmb_json_objects.specs.Packets.{other_object}
 use Rattle.pmb_json_objects.specs.Packets.{packet_objects, read_object, refused_check, refused_name, refused_object}
 use Rattle.pmb_json_objects.specs.Packets.{refused_objects, said_of, starts, write_object, write_objects}
+use Rattle.pmb_json.specs.Objects.{objects_of}
 use Rattle.pmb_json.specs.Pieces.{EachSaysNoMore, SayNoMore, SaysNoMore, Timing}
 use Rattle.pmb_json_objects.specs.Refusals.{due_pec, refusal_object, reply_members, right_pec_members}
 use Rattle.pmb_json_objects.specs.Refusals.{said_device_members, written_members}
 use Rattle.pmb_json_objects.specs.Seen.{SeenData, basis_at, entry_at, entry_of}
-use Rattle.pmb_json_stream.specs.Others.{other_address}
-use Rattle.pmb_json_stream.specs.Spans.{other_or, refused_span, seen_behind, span_objects}
+use Rattle.pmb_fact_stream.specs.Others.{other_address}
+use Rattle.pmb_fact_stream.specs.Lines.{seen_behind}
+use Rattle.pmb_fact_stream.specs.Spans.{other_or, refused_span, span_facts}
+use Rattle.pmb_facts.specs.Fact.{FactData}
+use Rattle.pmb_facts.specs.Packets.{packet_facts}
 use Rattle.pmb_transaction.specs.Reading.{RefusalData}
+use Rattle.pmb_json.proofs.Objects.{PacketsHaveObjects, packet_is}
 use Rattle.pmb_json.proofs.PieceMembers.{TellEach, Tells, both, data_said, entry_said, head_said, same}
 
 -- ---- objects
@@ -72,6 +77,20 @@ pairs_append timing [] [] c d first second = second
 pairs_append timing [] (w ∷ b) c d first second = absurd first
 pairs_append timing (p ∷ a) [] c d first second = absurd first
 pairs_append timing (p ∷ a) (w ∷ b) c d first second = (first.0, pairs_append timing a b c d first.1 second)
+
+-- facts of a piece under one choice, each beside that of the whole under another
+abbrev pub FactsSayNoMore : Timing → List DeviceParts → ChoiceData → ChoiceData → List FactData → List FactData → Type 0
+FactsSayNoMore timing profile one other piece whole =
+    EachSaysNoMore timing (objects_of one profile piece) (objects_of other profile whole)
+
+pub both_say_no_more : (timing : Timing) (profile : List DeviceParts) (one other : ChoiceData) (a b c d : List FactData)
+    → FactsSayNoMore timing profile one other a b → FactsSayNoMore timing profile one other c d
+    → FactsSayNoMore timing profile one other (a ++ c) (b ++ d)
+both_say_no_more timing profile one other [] [] c d first second = second
+both_say_no_more timing profile one other [] (w ∷ b) c d first second = absurd first
+both_say_no_more timing profile one other (p ∷ a) [] c d first second = absurd first
+both_say_no_more timing profile one other (p ∷ a) (w ∷ b) c d first second =
+    (first.0, both_say_no_more timing profile one other a b c d first.1 second)
 
 -- events have as many STARTs wherever they stand
 as_many_starts : (m n : ℕ) (events : List Event) → length (starts m events) ≡ length (starts n events)
@@ -287,13 +306,16 @@ module _ (timing : Timing) (places : ℕ) (profile : List DeviceParts) (a b : La
 
 -- ---- spans
 
-module _ (timing : Timing) (places : ℕ) (profile : List DeviceParts) (devices : List ℕ) (ignored : Option (List ℕ))
+module _ (of_packets : PacketsHaveObjects) (timing : Timing) (choice : ChoiceData) (profile : List DeviceParts)
     (a b : LateStart) (place there : ℕ → Place) (times theirs : ℕ → Option (List ℕ)) where
   abbrev in_piece : ChoiceData
-  in_piece = record { digits = places; start = a; devices = devices; ignored = ignored }
+  in_piece = record choice { start = a }
 
   abbrev in_whole : ChoiceData
-  in_whole = record { digits = places; start = b; devices = devices; ignored = ignored }
+  in_whole = record choice { start = b }
+
+  abbrev Beside : List FactData → List FactData → Type 0
+  Beside piece whole = FactsSayNoMore timing profile in_piece in_whole piece whole
 
   other_said : (head beside : Head) → Tells timing head.time beside.time → (addr : ℕ)
       → SaysNoMore timing (other_object head addr) (other_object beside addr)
@@ -302,36 +324,45 @@ module _ (timing : Timing) (places : ℕ) (profile : List DeviceParts) (devices 
     members = both (head_said head beside told (codes "other")) (same (device_member addr));
   }
 
-  -- an other, or these objects
-  either_said : (m n : ℕ) (addr : Option ℕ) (own beside : List Object) → Tells timing (times m) (theirs n)
-      → EachSaysNoMore timing own beside
-      → EachSaysNoMore timing (other_or in_piece profile place times m addr own)
-      (other_or in_whole profile there theirs n addr beside)
+  -- an other, or these facts
+  either_said : (m n : ℕ) (addr : Option ℕ) (own beside : List FactData) → Tells timing (times m) (theirs n)
+      → Beside own beside → Beside (other_or place times m addr own) (other_or there theirs n addr beside)
   either_said m n None own beside told said = said
   either_said m n (Some addr) own beside told said =
       (other_said (head_at place (times m) (m + 1)) (head_at there (theirs n) (n + 1)) told addr, tt)
 
+  -- those of a packet
+  packet_beside : (m n : ℕ) (events : List Event) (t : TransactionData) (x y : List TransactionData)
+      → Tells timing (times m) (theirs n) → Agree profile a b x y
+      → Beside (packet_facts x place (times m) m events t) (packet_facts y there (theirs n) n events t)
+  packet_beside m n events t x y told agree =
+      let own = packet_objects (seen_behind in_piece profile x) place (times m) m events t in
+      subst (λ (objects : List Object). EachSaysNoMore timing objects
+      (objects_of in_whole profile (packet_facts y there (theirs n) n events t)))
+      (sym (packet_is in_piece profile x place (times m) of_packets m events t))
+      (subst (λ (objects : List Object). EachSaysNoMore timing own objects)
+      (sym (packet_is in_whole profile y there (theirs n) of_packets n events t))
+      (packet_said timing choice.digits profile a b x y agree place there (times m) (theirs n) told m n events t))
+
   -- a refusal, or an other, and the spans after it
   refused_said_in : (n m : ℕ) (front : List Event) (event : Option Event) (refusal : RefusalData) (events : List Event)
       (spans : List Span) (x y : List TransactionData) → TellEach timing n times theirs → Agree profile a b x y
-      → EachSaysNoMore timing (span_objects in_piece profile place times x spans)
-      (span_objects in_whole profile there theirs y (moved_spans n spans))
-      → EachSaysNoMore timing (other_or in_piece profile place times m (other_address ignored events)
-      (refused_span in_piece profile place times x m front event refusal ∷ [])
-      ++ span_objects in_piece profile place times x spans)
-      (other_or in_whole profile there theirs (n + m) (other_address ignored events)
-      (refused_span in_whole profile there theirs y (n + m) front event refusal ∷ [])
-      ++ span_objects in_whole profile there theirs y (moved_spans n spans))
+      → Beside (span_facts choice.ignored place times x spans)
+      (span_facts choice.ignored there theirs y (moved_spans n spans))
+      → Beside (other_or place times m (other_address choice.ignored events)
+      (refused_span place times x m front event refusal ∷ []) ++ span_facts choice.ignored place times x spans)
+      (other_or there theirs (n + m) (other_address choice.ignored events)
+      (refused_span there theirs y (n + m) front event refusal ∷ [])
+      ++ span_facts choice.ignored there theirs y (moved_spans n spans))
   refused_said_in n m front event refusal events spans x y told agree others =
-      let addr = other_address ignored events in
-      let own = refused_span in_piece profile place times x m front event refusal ∷ [] in
-      let beside = refused_span in_whole profile there theirs y (n + m) front event refusal ∷ [] in
-      pairs_append timing (other_or in_piece profile place times m addr own)
-      (other_or in_whole profile there theirs (n + m) addr beside)
-      (span_objects in_piece profile place times x spans)
-      (span_objects in_whole profile there theirs y (moved_spans n spans))
+      let addr = other_address choice.ignored events in
+      let own = refused_span place times x m front event refusal ∷ [] in
+      let beside = refused_span there theirs y (n + m) front event refusal ∷ [] in
+      both_say_no_more timing profile in_piece in_whole (other_or place times m addr own)
+      (other_or there theirs (n + m) addr beside) (span_facts choice.ignored place times x spans)
+      (span_facts choice.ignored there theirs y (moved_spans n spans))
       (either_said m (n + m) addr own beside (told m) (
-        refusal_said timing places profile a b x y agree (head_at place (times m) (m + length front))
+        refusal_said timing choice.digits profile a b x y agree (head_at place (times m) (m + length front))
             (head_at there (theirs (n + m)) (n + m + length front)) (told m) front event refusal.reason
             refusal.expected,
         tt,
@@ -340,20 +371,18 @@ module _ (timing : Timing) (places : ℕ) (profile : List DeviceParts) (devices 
 
   pub spans_said : (n : ℕ) (spans : List Span) (x y : List TransactionData) → TellEach timing n times theirs
       → ((ts : List TransactionData) → Agree profile a b (x ++ ts) (y ++ ts))
-      → EachSaysNoMore timing (span_objects in_piece profile place times x spans)
-      (span_objects in_whole profile there theirs y (moved_spans n spans))
+      → Beside (span_facts choice.ignored place times x spans)
+      (span_facts choice.ignored there theirs y (moved_spans n spans))
   spans_said n [] x y told agree = tt
   spans_said n (ReadSpan m events t ∷ spans) x y told agree =
-      let addr = other_address ignored events in
-      let own = packet_objects (seen_behind in_piece profile x) place (times m) m events t in
-      let beside = packet_objects (seen_behind in_whole profile y) there (theirs (n + m)) (n + m) events t in
-      pairs_append timing (other_or in_piece profile place times m addr own)
-      (other_or in_whole profile there theirs (n + m) addr beside)
-      (span_objects in_piece profile place times (x ++ t ∷ []) spans)
-      (span_objects in_whole profile there theirs (y ++ t ∷ []) (moved_spans n spans))
+      let addr = other_address choice.ignored events in
+      let own = packet_facts x place (times m) m events t in
+      let beside = packet_facts y there (theirs (n + m)) (n + m) events t in
+      both_say_no_more timing profile in_piece in_whole (other_or place times m addr own)
+      (other_or there theirs (n + m) addr beside) (span_facts choice.ignored place times (x ++ t ∷ []) spans)
+      (span_facts choice.ignored there theirs (y ++ t ∷ []) (moved_spans n spans))
       (either_said m (n + m) addr own beside (told m)
-      (packet_said timing places profile a b x y (agree_here x y (agree [])) place there (times m) (theirs (n + m))
-      (told m) m (n + m) events t))
+      (packet_beside m (n + m) events t x y (told m) (agree_here x y (agree []))))
       (spans_said n spans (x ++ t ∷ []) (y ++ t ∷ []) told (λ ts. agree_there x y t ts (agree (t ∷ ts))))
   spans_said n (RefusedSpan m front event refusal ∷ spans) x y told agree =
       refused_said_in n m front (Some event) refusal (front ++ event ∷ []) spans x y told (agree_here x y (agree []))

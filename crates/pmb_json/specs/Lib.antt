@@ -1,6 +1,3 @@
-pub mod Text
-pub mod SoFar
-pub mod Json
+pub mod Objects
 pub mod Pieces
 pub mod Lines
-pub mod machine

@@ -1,4 +1,4 @@
--- What each line of a text of `json` is.
+-- What each line is where facts are told as objects.
 use Rattle.std.specs.Prelude.{◌≡◌, ℕ, IfSome, List, ◌++◌, codes}
 use Rattle.std.specs.List.{AllByRecursion, flat_map}
 use Rattle.pmb_command.specs.Parts.{DeviceParts}

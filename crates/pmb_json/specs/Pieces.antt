@@ -6,12 +6,18 @@ use Rattle.pmb_bus.specs.Text.{EndsBetween, Spells}
 use Rattle.pmb_command.specs.Parts.{DeviceParts, device_with}
 use Rattle.pmb_unknown_start.specs.Certain.{CanBeCutAfter}
 use Rattle.pmb_unknown_start.specs.declared.start.Start.{Start}
+use Rattle.pmb_unknown_start.specs.declared.start.Start.TheVariants.{AllKnown}
 use Rattle.pmb_json_text.specs.Json.{null, string}
 use Rattle.pmb_json_text.specs.Member.{Member, named}
 use Rattle.pmb_spans.specs.Spans.{Span, Spans}
 use Rattle.pmb_transaction.specs.Cut.{EndsWithStop}
 use Rattle.pmb_json_objects.specs.Object.{Object}
-use Rattle.pmb_json_stream.specs.Spans.{transactions_in}
+use Rattle.pmb_fact_stream.specs.Choice.{ChoiceData}
+use Rattle.pmb_fact_stream.specs.Spans.{transactions_in}
+
+-- the same choice, where all is known at first
+abbrev pub all_known : ChoiceData → ChoiceData
+all_known choice = record choice { start = AllKnown }
 
 -- where an object begins, which moves with the piece
 abbrev pub IsWhere : Member → Type 0

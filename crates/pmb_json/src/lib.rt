@@ -1,32 +1,8 @@
-//! `json`: what a capture says, as lines of JSON.
+//! Laws of what is told as objects of `json`.
 //!
-//! [`json`] writes an object for each packet, each refusal and each word that is no token, as soon
-//! as it has ended, and at the end how often each device came. An object tells the time that a
-//! comment told before its packet. A packet to an address that speaks no PMBus
-//! ([`ignored`](pmb_json_stream::Choice)) has one object, which is written as soon as the address
-//! has come. After a word that is no token reading ends, or continues with the next line
-//! ([`AfterBadToken`]).
-//!
-//! ```rust
-//! let choice = Choice {
-//!     digits: Digits::default(),
-//!     start: Start::AllKnown,
-//!     devices: &[],
-//!     ignored: None,
-//! };
-//! let mut reader = Io::new(b" 18 A f8 A P".as_slice());
-//! let mut writer = Io::new(Vec::new(rt.alloc()));
-//! let first = b"# 0.25 s\nS b0 A 21 A 00 A";
-//! let tally = json(&profile, choice, AfterBadToken::End, first, &mut reader, &mut writer)?;
-//! assert_eq!(rt; tally, Tally { packets: 1, refusals: 0 });
-//! ```
+//! Where the [`Telling`](pmb_fact_stream::Telling) of a choice is `Objects`, what
+//! [`tell`](pmb_telling::tell) writes is the lines of the objects of the capture's facts. By the [`laws`]
+//! each line is JSON, and a piece of a capture says nothing that the whole denies. Nothing runs here.
 #![tactic(auto)]
 
-mod engine;
 pub mod laws;
-mod run;
-mod word_end;
-mod word_laws;
-
-pub use pmb_scan::AfterBadToken;
-pub use run::json;

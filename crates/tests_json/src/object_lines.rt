@@ -2,7 +2,8 @@
 //! told by hand.
 
 mod counts;
+mod facts;
 mod packets;
 mod refusals;
-mod seen;
+pub(crate) mod seen;
 mod words;

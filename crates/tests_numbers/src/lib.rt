@@ -8,3 +8,5 @@ mod compare;
 mod decimals;
 #[cfg(test)]
 mod formats;
+#[cfg(test)]
+mod means;

@@ -1,7 +1,7 @@
-//! `show`, `check_capture` and `json`, the profile in front, and their laws.
+//! `show`, `check_capture` and `tell`, the profile in front, and their laws.
 
 use pmb_capture::{check_capture, show};
-use pmb_cli::{AfterBadToken, Choice, Digits, Start, front, json};
+use pmb_cli::{AfterBadToken, Choice, Digits, Start, Telling, front, tell};
 use pmb_io::{Io, Sink, Source, Tally, ToolFault};
 use pmb_table::{Profile, SAMPLE};
 use std::test::Fail;
@@ -56,8 +56,9 @@ fn late_objects<'p, R: Source, W: Sink>(
         start: Start::Late,
         devices,
         ignored: None,
+        telling: Telling::Objects,
     };
-    json(profile, choice, AfterBadToken::End, first, reader, writer)
+    tell(profile, choice, AfterBadToken::End, first, reader, writer)
 }
 
 #[test]
@@ -101,5 +102,5 @@ fn each_law_holds() {
     pmb_convert::laws::one_format();
     pmb_convert::laws::one_text();
     pmb_cli::laws::words_ask();
-    pmb_cli::laws::json_words_ask();
+    pmb_cli::laws::fact_words_ask();
 }

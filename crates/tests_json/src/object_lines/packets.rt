@@ -16,10 +16,10 @@ use std::test::Fail;
 
 /// A line of a transaction, where its first event stands, and the line of its object, or of its
 /// last part.
-type Row = (&'static str, u64, Place, &'static str);
+pub(crate) type Row = (&'static str, u64, Place, &'static str);
 
 /// The rows of the table. A call keeps the proof of a loop over them from carrying the table.
-fn rows() -> &'static [Row] {
+pub(crate) fn rows() -> &'static [Row] {
     &ROWS
 }
 

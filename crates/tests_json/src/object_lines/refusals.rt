@@ -13,10 +13,10 @@ use pmb_unknown_start::{Late, Start};
 use std::test::Fail;
 
 /// What came before, the refused event, why, what was expected, and the line.
-type Row = (&'static [Event], Option<Event>, Reason, Kinds, &'static str);
+pub(crate) type Row = (&'static [Event], Option<Event>, Reason, Kinds, &'static str);
 
 /// The rows of the table. A call keeps the proof of a loop over them from carrying the table.
-fn rows() -> &'static [Row] {
+pub(crate) fn rows() -> &'static [Row] {
     &ROWS
 }
 

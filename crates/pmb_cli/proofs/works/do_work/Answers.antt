@@ -22,6 +22,10 @@ pub returns-in-Json : goal.returns-in-Json
 returns-in-Json g c = did_work g.R.Source.told g.W.Sink.told _ _ (ap wanted_of c.in-Json.is) _ _ _ _ _ _ _ refl
     c.write_json.result c.write_json.ensures
 
+pub returns-in-Log : goal.returns-in-Log
+returns-in-Log g c = did_work g.R.Source.told g.W.Sink.told _ _ (ap wanted_of c.in-Log.is) _ _ _ _ _ _ _ refl
+    c.write_log.result c.write_log.ensures
+
 pub returns-in-Build : goal.returns-in-Build
 returns-in-Build g c = did_work g.R.Source.told g.W.Sink.told _ _ (ap wanted_of c.in-Build.is) _ _ _ _ _ _ _
     (ap building c.profile-profile.ensures.profile) c.build.result c.build.ensures

@@ -18,5 +18,5 @@ returns-clause-work c Run bus input a b s t accepted one other =
 
 pub returns-clause-json : goal.returns-clause-json
 returns-clause-json c choice after devices input a b s t bus one other =
-    c.one_json.ensures choice devices after input a b s t bus (told devices input a s choice after one)
+    c.one_text_is_told.ensures choice devices after input a b s t bus (told devices input a s choice after one)
     (told devices input b t choice after other)

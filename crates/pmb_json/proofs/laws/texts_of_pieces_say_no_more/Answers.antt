@@ -1,21 +1,21 @@
 -- Both clauses by `cut`, which is told of the times of the rest what each clause says of them.
-use Rattle.std.proofs.Common.{◌≡◌, ◌≢◌, ℕ, ◌+◌, Option, inl, inr, List, ◌++◌, length, refl, subst, ◌∙◌}
+use Rattle.std.proofs.Common.{◌≡◌, ◌≢◌, ℕ, ◌+◌, inl, inr, List, ◌++◌, length, refl, subst, ◌∙◌}
 use Rattle.pmb_command.specs.Bus.{IsBus}
 use Rattle.pmb_command.specs.Parts.{DeviceParts}
-use Rattle.pmb_unknown_start.specs.declared.start.Start.{Start}
+use Rattle.pmb_facts.specs.Fact.{FactData}
 use Rattle.pmb_unknown_start.specs.declared.start.Start.TheVariants.{AllKnown}
 use Rattle.pmb_note.specs.Paging.{mode as mode_of_whole}
 use Rattle.pmb_transaction.specs.Transaction.{TransactionData}
 use Rattle.pmb_scan.specs.declared.after_bad_token.AfterBadToken.{AfterBadToken}
 use Rattle.pmb_json_objects.specs.Counts.{CountsData}
-use Rattle.pmb_json_objects.specs.Object.{Object}
-use Rattle.pmb_json_stream.specs.Before.{at_first}
-use Rattle.pmb_json_stream.specs.Spans.{transactions_in}
+use Rattle.pmb_fact_stream.specs.Before.{at_first}
+use Rattle.pmb_fact_stream.specs.Choice.{ChoiceData}
+use Rattle.pmb_fact_stream.specs.Spans.{transactions_in}
 use Rattle.pmb_times.specs.Times.{time_at}
-use Rattle.pmb_json.specs.Pieces.{CanBeCutBehind, EachSaysNoMore, OtherTimes, SameTimes, TellsNoMore, Timing}
-use Rattle.pmb_json.specs.Text.{BadLine, ObjectsFrom}
+use Rattle.pmb_json.specs.Objects.{objects_of}
+use Rattle.pmb_json.specs.Pieces.{CanBeCutBehind, EachSaysNoMore, OtherTimes, SameTimes, TellsNoMore, Timing, all_known}
+use Rattle.pmb_telling.specs.Text.{BadLine, FactsFrom}
 use Rattle.pmb_json.proofs.Cut.{cut}
-use Rattle.pmb_json.proofs.OneText.{one_list}
 use Rattle.pmb_json.proofs.PieceMembers.{Tells}
 use Rattle.pmb_json.proofs.PieceTimes.{as_many_words}
 use Rattle.pmb_json.proofs.Pieces.{Agree}
@@ -23,19 +23,16 @@ use Rattle.pmb_json.proofs.laws.texts_of_pieces_say_no_more.Goals as goal
 
 pub returns : goal.returns
 returns c =
-    let said : (timing : Timing) (profile : List DeviceParts) (digits : ℕ) (start : Start) (devices : List ℕ)
-    (ignored : Option (List ℕ)) (after : AfterBadToken) (front back : List ℕ) (bad lines : List BadLine)
-    (objects whole : List Object) (x y : CountsData) → IsBus profile → start ≢ AllKnown
-    → (first : CanBeCutBehind profile start front)
+    let said : (timing : Timing) (choice : ChoiceData) (profile : List DeviceParts) (after : AfterBadToken)
+    (front back : List ℕ) (bad lines : List BadLine) (facts whole : List FactData) (x y : CountsData) → IsBus profile
+    → choice.start ≢ AllKnown → (first : CanBeCutBehind profile choice.start front)
     → ((rest : List ℕ) (k : ℕ) → Tells timing (time_at rest k) (time_at (front ++ rest) (length first.events + k)))
-    → ObjectsFrom (record { digits = digits; start = start; devices = devices; ignored = ignored }) profile after
-    at_first back bad objects x
-    → ObjectsFrom (record { digits = digits; start = AllKnown; devices = devices; ignored = ignored }) profile after
-    at_first (front ++ back) lines whole y
-    → (firsts : List Object) × (others : List Object) × (whole ≡ firsts ++ others)
-    × EachSaysNoMore timing objects others =
-    λ timing profile digits start devices ignored after front back bad lines objects whole x y bus late first tells rest
-    all.
+    → FactsFrom choice.ignored profile after at_first back bad facts x
+    → FactsFrom choice.ignored profile after at_first (front ++ back) lines whole y
+    → (firsts : List FactData) × (others : List FactData) × (whole ≡ firsts ++ others)
+    × EachSaysNoMore timing (objects_of choice profile facts) (objects_of (all_known choice) profile others) =
+    λ timing choice profile after front back bad lines facts whole x y bus late first tells rest all.
+    let start = choice.start in
     let before = transactions_in first.spans in
     let agree : (ts : List TransactionData) → Agree profile start AllKnown ts (before ++ ts) =
     λ (ts : List TransactionData). record {
@@ -47,27 +44,21 @@ returns c =
         c.all_that_is_known_is_the_context.ensures.mode profile (before ++ ts) addr,
       );
     } in
-    let both = cut timing digits profile devices ignored start front first agree
+    let both = cut c.objects_are_of_facts.ensures timing choice profile front first agree
     (λ n k events spans reads. c.spans_move.ensures profile n k events spans reads)
     c.texts_may_be_cut_between_words.ensures.spelled c.texts_may_be_cut_between_words.ensures.bad
     (c.spans_may_be_cut.ensures.joined profile)
     (c.spans_may_be_cut.ensures.whole profile first.events first.spans first.stop first.reads) tells after bad
-    back objects x rest in
-    let same = one_list (record { digits = digits; start = AllKnown; devices = devices; ignored = ignored }) profile
-    (λ n events p q r s. c.one_list_of_spans.ensures profile n events p q bus r s)
-    c.one_spelling.ensures c.one_bad_word.ensures
-    c.spelled_has_no_bad_word.ensures after at_first (front ++ back) lines both.bad whole
-    (both.firsts ++ both.others) y both.counts all both.from_first in
+    back facts x rest in
+    let same = c.one_list_of_facts.ensures choice.ignored profile after (front ++ back) lines both.bad whole
+    (both.firsts ++ both.others) y both.counts bus all both.from_first in
     (both.firsts, both.others, same.0, both.no_more) in
     record {
-      values = λ profile digits start devices ignored after front back bad lines objects whole x y bus late first rest
-          all.
-          said OtherTimes profile digits start devices ignored after front back bad lines objects whole x y bus late
-          first (λ rest k. inl refl) rest all;
-      times = λ profile digits start devices ignored after front back bad lines objects whole x y bus late first line
-          rest all.
-          said SameTimes profile digits start devices ignored after front back bad lines objects whole x y bus
-          late first
+      values = λ choice profile after front back bad lines facts whole x y bus late first rest all.
+          said OtherTimes choice profile after front back bad lines facts whole x y bus late first (λ rest k. inl refl)
+          rest all;
+      times = λ choice profile after front back bad lines facts whole x y bus late first line rest all.
+          said SameTimes choice profile after front back bad lines facts whole x y bus late first
           (λ rest k. inr (subst (λ (n : ℕ). TellsNoMore (time_at rest k) (time_at (front ++ rest) (n + k)))
           (as_many_words front first.events first.spells) (c.times_of_a_piece.ensures front rest k line)))
           rest all;

@@ -1,0 +1,276 @@
+-- What a stream stands at, visit by visit, where no span ends: bytes, events, and the address byte of an
+-- other. For `take_next`, `take_other`, `put_end` and the visits.
+use Rattle.std.proofs.Common.{◌≡◌, ◌≢◌, ℕ, ◌+◌, None, List, [], ◌∷◌, ◌++◌, length, append-nil}
+use Rattle.std.proofs.Common.{append_assoc, length-append}
+use Rattle.std.proofs.Common.{refl, sym, ap, ◌∙◌, subst, arith}
+use Rattle.pmb_bus.specs.declared.event.Event.{Event}
+use Rattle.pmb_bus.specs.Text.{Spells}
+use Rattle.pmb_io.specs.Count.{capped}
+use Rattle.pmb_json_objects.specs.Counts.{CountsData, after_other}
+use Rattle.pmb_command.specs.Parts.{DeviceParts}
+use Rattle.pmb_facts.specs.Fact.{FactData}
+use Rattle.pmb_fact_stream.specs.Lines.{fact_lines, last_lines}
+use Rattle.pmb_fact_stream.specs.Spans.{other_fact}
+use Rattle.pmb_places.specs.declared.places.Place.{Place}
+use Rattle.pmb_places.specs.Text.{place_of_last_word}
+use Rattle.pmb_reader.specs.Reader.{Standing, Open, Held, Passing}
+use Rattle.pmb_partial_packet.specs.Standing.{SaidStandsAt}
+use Rattle.pmb_scan.specs.Reached.{MayGoOn, Reached, behind_bytes, behind_event}
+use Rattle.pmb_scan.specs.Reached.{standing_after}
+use Rattle.pmb_fact_stream.specs.declared.open_time.OpenTime.{OpenTime}
+use Rattle.pmb_fact_stream.specs.declared.stream.Stream.{Stream}
+use Rattle.pmb_fact_stream.specs.Before.{Before, with_reached}
+use Rattle.pmb_fact_stream.specs.Choice.{ChoiceData}
+use Rattle.pmb_fact_stream.specs.Spans.{after_open, after_some, after_spans, event_place, event_time}
+use Rattle.pmb_fact_stream.specs.Spans.{transactions_in}
+use Rattle.pmb_fact_stream.specs.Stream.{HasToldOf, IsSame, StreamAt, StreamKnows, stream_choice, stream_profile}
+use Rattle.pmb_fact_stream.specs.Stream.{stream_last_lines, stream_lines, stream_time}
+use Rattle.pmb_fact_stream.specs.UnderWay.{under_way}
+use Rattle.pmb_fact_stream.specs.machine.Knowing.{IsCountOf, IsUnderWay, KeepsPacket, KeepsSame}
+use Rattle.pmb_fact_stream.specs.machine.Knowing.{KeepsUnderWay, KnowsTimes}
+use Rattle.pmb_fact_stream.specs.declared.front.Front.{Front}
+use Rattle.pmb_fact_stream.specs.machine.Front.{begins_behind, begins_other, front_of, other_begun_at}
+use Rattle.pmb_fact_stream.specs.machine.OpenTime.{HasTime, kept_time}
+use Rattle.pmb_fact_stream.proofs.Fronts.{BeginsOther, begins_so, count_stays}
+use Rattle.pmb_fact_stream.proofs.Fronts.{open_none, open_other, open_stays}
+use Rattle.pmb_fact_stream.proofs.Places.{LastWordStands}
+use Rattle.pmb_fact_stream.proofs.UnderWay.{time_in_packet, time_of_packet}
+use Rattle.pmb_fact_stream.proofs.Standing.{counts_event, keeps_as, keeps_behind, knows_as}
+use Rattle.pmb_fact_stream.proofs.Adding.{LinesAre, begun_fact, head_as, lines_begin, lines_behind, lines_stay}
+use Rattle.pmb_fact_stream.proofs.Adding.{open_in}
+
+-- the same choice twice
+pub same_then : (a b c : Stream) → IsSame a b → IsSame b c → IsSame a c
+same_then a b c first second = record {
+  choice = second.choice ∙ first.choice;
+  profile = second.profile
+      ∙ first.profile;
+}
+
+-- what it says of facts is the same
+pub same_lines : (start now : Stream) → IsSame start now → (facts : List FactData)
+    → stream_lines now facts ≡ stream_lines start facts
+same_lines start now same facts =
+    ap (λ (c : ChoiceData). fact_lines c (stream_profile now) facts) same.choice
+    ∙ ap (λ (p : List DeviceParts). fact_lines (stream_choice start) p facts) same.profile
+
+pub same_last_lines : (start now : Stream) → IsSame start now → (counts : CountsData)
+    → stream_last_lines now counts ≡ stream_last_lines start counts
+same_last_lines start now same counts =
+    ap (λ (c : ChoiceData). last_lines c (stream_profile now) counts) same.choice
+    ∙ ap (λ (p : List DeviceParts). last_lines (stream_choice start) p counts) same.profile
+
+-- ---- a packet under way
+
+pub said_under_way : (b : Before) (stream : Stream) (reached : Reached) (n : ℕ) (front : List Event)
+    → StreamAt b stream reached → reached.standing ≡ Open n front → SaidStandsAt stream.said front
+said_under_way b stream reached n front stands standing =
+    (subst (λ (s : Standing). KeepsUnderWay b stream reached.text s) standing stands.packet).said
+
+pub count_under_way : (b : Before) (stream : Stream) (reached : Reached) (n : ℕ) (front : List Event)
+    → StreamAt b stream reached → reached.standing ≡ Open n front → n + length front ≡ length reached.events
+count_under_way b stream reached n front stands standing =
+    subst (λ (s : Standing). IsCountOf s (length reached.events)) standing stands.counted
+
+pub front_under_way : (b : Before) (stream : Stream) (reached : Reached) (n : ℕ) (front : List Event)
+    → StreamAt b stream reached → reached.standing ≡ Open n front
+    → stream.front ≡ front_of (stream_choice stream).ignored front
+front_under_way b stream reached n front stands standing =
+    (subst (λ (s : Standing). KeepsUnderWay b stream reached.text s) standing stands.packet).front
+
+-- whether an other begins with the next event is kept
+pub begins_in : (stream : Stream) (front : List Event) (event : Event)
+    → stream.front ≡ front_of (stream_choice stream).ignored front
+    → begins_other (stream_choice stream).ignored front event
+    ≡ begins_behind (stream_choice stream).ignored stream.front event
+begins_in stream front event kept =
+    let ignored = (stream_choice stream).ignored in
+    sym (begins_so ignored front event) ∙ ap (λ (f : Front). begins_behind ignored f event) (sym kept)
+
+begins_by : (b : Before) (stream : Stream) (text : List ℕ) (standing : Standing) (event : Event)
+    → KeepsUnderWay b stream text standing → MayGoOn standing event
+    → other_begun_at (stream_choice stream).ignored standing event
+    ≡ begins_behind (stream_choice stream).ignored stream.front event
+begins_by b stream text (Open n front) event keeps may = begins_in stream front event keeps.front
+begins_by b stream text (Held n refusal) event keeps may = absurd may
+begins_by b stream text (Passing n) event keeps may =
+    ap (λ (f : Front). begins_behind (stream_choice stream).ignored f event) (sym keeps.1.front)
+
+pub begins_where : (b : Before) (stream : Stream) (reached : Reached) → StreamAt b stream reached → (event : Event)
+    → MayGoOn reached.standing event
+    → other_begun_at (stream_choice stream).ignored reached.standing event
+    ≡ begins_behind (stream_choice stream).ignored stream.front event
+begins_where b stream reached stands event may =
+    begins_by b stream reached.text reached.standing event stands.packet may
+
+-- .. and its time, where nothing follows
+pub time_at_end : (b : Before) (stream : Stream) (reached : Reached) (n : ℕ) (front : List Event)
+    → StreamAt b stream reached → reached.standing ≡ Open n front → front ≢ []
+    → stream_time stream ≡ event_time b.n reached.text (b.n + n)
+time_at_end b stream reached n front stands standing some =
+    time_in_packet stream.time reached.text reached.events front b.n n
+    (subst (λ (s : Standing). IsUnderWay s reached.events) standing stands.times.under_way)
+    (count_under_way b stream reached n front stands standing) some stands.times.time []
+    ∙ ap (λ (l : List ℕ). event_time b.n l (b.n + n)) (append-nil reached.text)
+
+-- ---- visits
+
+module _ (b : Before) (start old new : Stream) (reached : Reached) (text : List ℕ)
+    (told : HasToldOf b start old reached text) where
+  -- what was ignored and the devices at the start
+  pub same_choice : (P : ChoiceData → Type 0) → P (stream_choice old) → P (stream_choice start)
+  same_choice P holds = subst P told.same.choice holds
+
+  pub told_bytes : (bytes : List ℕ) → IsSame old new → KeepsSame old new
+      → KnowsTimes new (behind_bytes reached bytes)
+      → ((c : Before) → StreamKnows c old → StreamKnows (record c { read = c.read ++ bytes }) new)
+      → HasToldOf b start new (behind_bytes reached bytes) text
+  told_bytes bytes same packet times knows = record {
+    same = same_then start old new told.same same;
+    at = record {
+      between = told.at.between;
+      profile = told.at.profile ∙ sym same.profile;
+      knows = subst (λ (c : ChoiceData). StreamKnows (with_reached c.ignored b (behind_bytes reached bytes)) new)
+          (sym same.choice)
+          (knows_as _ (with_reached (stream_choice old).ignored b (behind_bytes reached bytes)) new
+          (append_assoc b.read reached.text bytes) refl refl refl
+          (knows (with_reached (stream_choice old).ignored b reached) told.at.knows));
+      packet = keeps_as b old new (reached.text ++ bytes) reached.standing same packet
+          (keeps_behind b old reached.text bytes reached.standing told.at.packet);
+      counted = told.at.counted;
+      times = times;
+    };
+    time = times.time.time;
+    lines = lines_behind (stream_choice start) (stream_profile start) b reached.text bytes reached.spans
+        reached.standing text told.lines;
+  }
+
+  pub one_more_event : (event : Event) → (b.n + length reached.events) + 1 ≡ b.n + length (reached.events ++ event ∷ [])
+  one_more_event event = omega (arith, length-append reached.events (event ∷ []))
+
+  -- an event that begins no other
+  pub told_event : (event : Event) → IsSame old new → KnowsTimes new (behind_event reached event)
+      → other_begun_at (stream_choice old).ignored reached.standing event ≡ None
+      → StreamKnows (record (with_reached (stream_choice old).ignored b reached)
+      { n = (b.n + length reached.events) + 1 }) new
+      → KeepsUnderWay b new reached.text (standing_after reached.standing event)
+      → HasToldOf b start new (behind_event reached event) text
+  told_event event same times none knows packet =
+      let ignored = (stream_choice old).ignored in
+      let counts = after_spans ignored b.counts reached.spans in
+      let none_here = same_choice (λ c. other_begun_at c.ignored reached.standing event ≡ None) none in record {
+        same = same_then start old new told.same same;
+        at = record {
+          between = told.at.between;
+          profile = told.at.profile ∙ sym same.profile;
+          knows = subst (λ (c : ChoiceData). StreamKnows (with_reached c.ignored b (behind_event reached event)) new)
+              (sym same.choice)
+              (knows_as _ (with_reached ignored b (behind_event reached event)) new refl (one_more_event event) refl
+              (sym (count_stays ignored counts reached.standing event none)) knows);
+          packet = packet;
+          counted = counts_event reached.standing reached.events event told.at.counted;
+          times = times;
+        };
+        time = times.time.time;
+        lines = lines_stay (stream_choice start) (stream_profile start) b reached.text reached.spans reached.standing
+            (standing_after reached.standing event) text
+            (λ l. open_stays (stream_choice start).ignored (event_place b.read b.n l) (event_time b.n l)
+            b.n reached.standing event none_here) told.lines;
+      }
+
+  -- what is under way is the packet
+  open_packet : (n : ℕ) (front : List Event) → reached.standing ≡ Open n front → under_way reached.events ≡ front
+  open_packet n front standing = subst (λ (s : Standing). IsUnderWay s reached.events) standing
+      told.at.times.under_way
+
+  -- what was kept of the packet under way
+  pub kept_packet : (n : ℕ) (front : List Event) → reached.standing ≡ Open n front
+      → KeepsPacket b old reached.text n front
+  kept_packet n front standing = subst (λ (s : Standing). KeepsUnderWay b old reached.text s) standing told.at.packet
+
+  pub counted_packet : (n : ℕ) (front : List Event) → reached.standing ≡ Open n front
+      → n + length front ≡ length reached.events
+  counted_packet n front standing = subst (λ (s : Standing). IsCountOf s (length reached.events)) standing
+      told.at.counted
+
+  -- the time of a packet that has begun, or begins with the next event
+  pub timed_packet : (kept : OpenTime) (n : ℕ) (front : List Event) → reached.standing ≡ Open n front
+      → HasTime kept reached.text reached.events
+      → (more : List ℕ) → kept_time kept ≡ event_time b.n (reached.text ++ more) (b.n + n)
+  timed_packet kept n front standing has = time_of_packet kept reached.text reached.events front b.n n
+      (open_packet n front standing) (counted_packet n front standing) has
+
+  pub timed_inside : (n : ℕ) (front : List Event) → reached.standing ≡ Open n front → front ≢ []
+      → (more : List ℕ) → stream_time old ≡ event_time b.n (reached.text ++ more) (b.n + n)
+  timed_inside n front standing some = time_in_packet old.time reached.text reached.events front b.n n
+      (open_packet n front standing) (counted_packet n front standing) some told.at.times.time
+
+  -- the lines so far, with the packet under way
+  pub lines_under_way : (n : ℕ) (front : List Event) → reached.standing ≡ Open n front
+      → LinesAre (stream_choice start) (stream_profile start) b reached.text reached.spans (Open n front) text
+  lines_under_way n front standing =
+      subst (λ (s : Standing). LinesAre (stream_choice start) (stream_profile start) b reached.text reached.spans s
+      text)
+      standing told.lines
+
+  -- the address byte of an other
+  pub told_other : LastWordStands → (n : ℕ) (front : List Event) (event : Event) (addr : ℕ)
+      → reached.standing ≡ Open n front → Spells reached.text (reached.events ++ event ∷ [])
+      → IsSame old new → KnowsTimes new (behind_event reached event)
+      → BeginsOther (stream_choice old).ignored front event addr
+      → StreamKnows (record {
+        read = b.read ++ reached.text;
+        n = (b.n + length reached.events) + 1;
+        ts = b.ts ++ transactions_in reached.spans;
+        counts = after_other (after_open (stream_choice old).ignored
+            (after_spans (stream_choice old).ignored b.counts reached.spans) reached.standing) addr;
+      }) new
+      → KeepsUnderWay b new reached.text (standing_after reached.standing event)
+      → (added : List ℕ) (place : Place) → place ≡ place_of_last_word (b.read ++ reached.text)
+      → added ≡ stream_lines old
+      (other_fact (head_as (capped (b.n + length reached.events)) place (stream_time old)) addr ∷ [])
+      → HasToldOf b start new (behind_event reached event) (text ++ added)
+  told_other law n front event addr standing spells same times other knows packet added place placed added_is =
+      let ignored = (stream_choice old).ignored in
+      let counts = after_spans ignored b.counts reached.spans in
+      let next = Open n (front ++ event ∷ []) in
+      let here = same_choice (λ c. BeginsOther c.ignored front event addr) other in
+      let counted = counted_packet n front standing in
+      let alone : n + 1 ≡ length reached.events =
+      omega (arith, counted, ap (λ (es : List Event). length es) other.alone) in
+      let timed = timed_inside n front standing (λ none. cc (other.alone, none)) in
+      let last = place_of_last_word (b.read ++ reached.text) in
+      let facts = λ (p : Place). other_fact (head_as (capped (b.n + length reached.events)) p (stream_time old)) addr
+      ∷ [] in
+      let adds : (more : List ℕ) → added ≡ stream_lines start
+      (open_in (stream_choice start) (stream_profile start) b (reached.text ++ more) next) =
+      λ more. added_is ∙ same_lines start old told.same (facts place)
+      ∙ ap (λ (p : Place). stream_lines start (facts p)) placed
+      ∙ ap (stream_lines start)
+      (begun_fact (stream_choice start) (stream_profile start) b law reached.text reached.events (stream_time old) n
+      addr event timed told.at.between spells alone more
+      ∙ sym (open_other (stream_choice start).ignored (event_place b.read b.n (reached.text ++ more))
+      (event_time b.n (reached.text ++ more)) b.n n (front ++ event ∷ []) addr here.after)) in
+      let at_next : standing_after reached.standing event ≡ next =
+      ap (λ (s : Standing). standing_after s event) standing in record {
+        same = same_then start old new told.same same;
+        at = record {
+          between = told.at.between;
+          profile = told.at.profile ∙ sym same.profile;
+          knows = subst (λ (c : ChoiceData). StreamKnows (with_reached c.ignored b (behind_event reached event)) new)
+              (sym same.choice)
+              (knows_as _ (with_reached ignored b (behind_event reached event)) new refl (one_more_event event) refl
+              (ap (λ (c : CountsData). after_other c addr)
+              (ap (after_open ignored counts) standing ∙ ap (after_some counts) other.before)
+              ∙ sym (ap (after_some counts) other.after) ∙ sym (ap (after_open ignored counts) at_next)) knows);
+          packet = packet;
+          counted = counts_event reached.standing reached.events event told.at.counted;
+          times = times;
+        };
+        time = times.time.time;
+        lines = subst (λ (s : Standing). LinesAre (stream_choice start) (stream_profile start) b reached.text
+            reached.spans s (text ++ added)) (sym at_next)
+            (lines_begin (stream_choice start) (stream_profile start) b reached.text reached.spans (Open n front) next
+            text added (λ l. open_none (stream_choice start).ignored (event_place b.read b.n l)
+            (event_time b.n l) b.n n front here.before) adds (lines_under_way n front standing));
+      }

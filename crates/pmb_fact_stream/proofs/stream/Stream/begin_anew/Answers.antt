@@ -1,0 +1,20 @@
+use Rattle.std.proofs.Common.{refl}
+use Rattle.pmb_fact_stream.proofs.Standing.{begins_so}
+use Rattle.pmb_fact_stream.proofs.stream.Stream.begin_anew.Goals as goal
+
+pub returns-clause-begins : goal.returns-clause-begins
+returns-clause-begins c b knows between =
+    let known = c.clear.ensures.knows b knows in
+    begins_so b _ between (record {
+      places = known.places;
+      word = known.word;
+      count = known.count;
+      late = known.late;
+      counts = known.counts;
+      tally = known.tally;
+    }) (record {
+      said = c.clear.ensures.cleared.said;
+      begun = c.clear.ensures.cleared.begun;
+      front = c.clear.ensures.cleared.front;
+    }) refl
+    c.new-self.ensures c.new-self-2.ensures

@@ -1,0 +1,9 @@
+pub mod Telling
+pub mod Choice
+pub mod Lines
+pub mod UnderWay
+pub mod Others
+pub mod Spans
+pub mod Before
+pub mod Stream
+pub mod machine

@@ -1,0 +1,4 @@
+pub mod Fact
+pub mod Stands
+pub mod Packets
+pub mod Object

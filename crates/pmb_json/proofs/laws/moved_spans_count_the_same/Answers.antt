@@ -1,8 +1,0 @@
-use Rattle.pmb_json.proofs.Objects.{counts_moved, transactions_moved}
-use Rattle.pmb_json.proofs.laws.moved_spans_count_the_same.Goals as goal
-
-pub returns-clause-counts : goal.returns-clause-counts
-returns-clause-counts c ignored n spans counts = counts_moved ignored counts n spans
-
-pub returns-clause-transactions : goal.returns-clause-transactions
-returns-clause-transactions c n spans = transactions_moved n spans

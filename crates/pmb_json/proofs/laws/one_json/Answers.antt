@@ -1,8 +1,0 @@
-use Rattle.pmb_json.proofs.OneText.{one_text}
-use Rattle.pmb_json.proofs.laws.one_json.Goals as goal
-
-pub returns : goal.returns
-returns c choice profile after bytes a b s t bus =
-    one_text choice profile (λ n events x y. c.one_list_of_spans.ensures profile n events x y bus)
-    c.one_spelling.ensures c.one_bad_word.ensures
-    c.spelled_has_no_bad_word.ensures after bytes a b s t

@@ -1,0 +1,5 @@
+pub mod Appends
+pub mod Text
+pub mod Data
+pub mod Whole
+pub mod machine

@@ -1,0 +1,10 @@
+use Rattle.std.proofs.Common.{◌≡◌, ◌≤◌, map, take}
+use Rattle.pmb_log_lines.specs.Layout.{name_length, greatest}
+use Rattle.pmb_log_lines.proofs.layout.name_width.Given as goal
+
+-- the greatest so far
+abbrev pub invariant-loop-index : goal.invariant-loop-index
+invariant-loop-index l = record {
+  width : l.width ≡ greatest (map name_length (take l.index l.profile));
+  narrow : l.width ≤ 32;
+}

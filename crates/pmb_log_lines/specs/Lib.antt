@@ -1,0 +1,5 @@
+pub mod Layout
+pub mod Columns
+pub mod Packets
+pub mod Refusals
+pub mod Line

@@ -1,0 +1,10 @@
+pub mod Products
+pub mod Values
+pub mod Takes
+pub mod Sums
+pub mod Standing
+pub mod LongDivision
+pub mod JsonNumber
+pub mod MeanLaws
+pub mod Between
+pub mod OneValue

@@ -1,0 +1,3 @@
+-- What private fields hold. No public contract needs more of these than the name `HistoryStandsAt`.
+pub mod Exponents
+pub mod History

@@ -1,0 +1,3 @@
+mod ReadSteps
+mod Slots
+mod Around

@@ -1,0 +1,4 @@
+mod Empty
+mod Found
+mod Registers
+mod Wholes

@@ -1,0 +1,17 @@
+pub mod Words
+pub mod Lines
+pub mod Behind
+pub mod Facts
+pub mod OpenOthers
+pub mod Leading
+pub mod MetWords
+pub mod Steps
+pub mod Reading
+pub mod Taking
+pub mod Fronts
+pub mod Endings
+pub mod Running
+pub mod BadLines
+pub mod OneText
+pub mod SomeText
+pub mod OneFront

@@ -1,0 +1,69 @@
+use Rattle.std.proofs.Common.{◌++◌, ◌∷◌, [], List, refl, subst, sym, ◌∙◌}
+use Rattle.pmb_command.specs.Parts.{DeviceParts}
+use Rattle.pmb_io.specs.Outgoing.{PutsText}
+use Rattle.pmb_telling.specs.declared.engine.EngineState.TheVariants as inside
+use Rattle.pmb_telling.specs.declared.engine.Teller.{Teller}
+use Rattle.pmb_telling.specs.machine.Standing.{behind_bytes, teller_bad_words, teller_choice, teller_profile}
+use Rattle.pmb_telling.specs.machine.Standing.{teller_tally}
+use Rattle.pmb_telling.specs.machine.Standing.{last_word_lines, open_word_fact}
+use Rattle.pmb_telling.proofs.Steps.{drops_line, made_on, stops_told}
+use Rattle.pmb_facts.specs.Fact.{FactData}
+use Rattle.pmb_fact_stream.specs.Lines.{fact_lines}
+use Rattle.pmb_fact_stream.specs.Choice.{ChoiceData}
+use Rattle.pmb_fact_stream.specs.Stream.{stream_profile, stream_time}
+use Rattle.pmb_telling.proofs.engine.Teller.end_bad_word.Goals as goal
+
+-- reading ends there
+pub returns-in_ok-put_last_word-in-End-clause-takes : goal.returns-in_ok-put_last_word-in-End-clause-takes
+returns-in_ok-put_last_word-in-End-clause-takes g c start given text stands =
+    let choice = teller_choice start in
+    let laws = c.bad_words_stand_there.ensures in
+    let behind = stands.behind in
+    let b = behind_bytes choice.ignored behind.b behind.holds.word.bad in
+    let knows = behind.holds.word.knows in
+    let put = c.in_ok-put_last_word-in-End.ensures in
+    let stream = c.args.self.now.stream in
+    let lines = λ (k : ChoiceData) (p : List DeviceParts). last_word_lines k p (stream_time stream) b in
+    let said = lines choice (teller_profile start) in record {
+      text = said;
+      writes = subst (λ (p : List DeviceParts). PutsText (g.W.Sink.told c.args.writer.now).held
+          c.args.waiting.now.items (g.W.Sink.told c.put_last_word.new.writer).held
+          c.put_last_word.new.waiting.items (lines choice p)) stands.made.reads
+          (subst (λ (k : ChoiceData). PutsText (g.W.Sink.told c.args.writer.now).held c.args.waiting.now.items
+          (g.W.Sink.told c.put_last_word.new.writer).held c.put_last_word.new.waiting.items
+          (lines k (stream_profile stream))) stands.made.choice (put.puts b knows));
+      holds = stops_told choice (teller_profile start) (teller_bad_words start) given text laws.opened laws.placed
+          c.args.rest.now stream behind said (teller_tally c.put_last_word.new.self)
+          (sym stands.made.bad_words ∙ c.in-End.is) refl (put.knows b knows).tally;
+    }
+
+-- or goes on after its line
+pub returns-in_ok-put_bad_word-in-Continue-clause-takes : goal.returns-in_ok-put_bad_word-in-Continue-clause-takes
+returns-in_ok-put_bad_word-in-Continue-clause-takes g c start given text stands =
+    let choice = teller_choice start in
+    let profile = teller_profile start in
+    let laws = c.bad_words_stand_there.ensures in
+    let old = c.args.self.now in
+    let behind = stands.behind in
+    let b = behind_bytes choice.ignored behind.b behind.holds.word.bad in
+    let knows = behind.holds.word.knows in
+    let put = c.in_ok-put_bad_word-in-Continue.ensures in
+    let word : List FactData = open_word_fact (stream_time old.stream) b ∷ [] in
+    let said = fact_lines choice profile word in
+    let new : Teller = record old { stream = c.put_bad_word.new.self; inside = inside.BadLine } in record {
+      text = said;
+      writes = subst (λ (p : List DeviceParts). PutsText (g.W.Sink.told c.args.writer.now).held
+          c.args.waiting.now.items (g.W.Sink.told c.put_bad_word.new.writer).held
+          c.put_bad_word.new.waiting.items (fact_lines choice p word)) stands.made.reads
+          (subst (λ (k : ChoiceData). PutsText (g.W.Sink.told c.args.writer.now).held c.args.waiting.now.items
+          (g.W.Sink.told c.put_bad_word.new.writer).held c.put_bad_word.new.waiting.items
+          (fact_lines k (stream_profile old.stream) word)) stands.made.choice (put.puts b knows));
+      holds = c.drop_line.ensures.takes start given (text ++ said) refl (
+        sym stands.made.bad_words ∙ c.in-Continue.is,
+        record {
+          made = made_on start old new stands.made refl refl put.same;
+          behind = drops_line choice profile (teller_bad_words start) given text laws.opened laws.placed
+              c.args.rest.now old.stream behind said new.stream refl (put.knows b knows);
+        },
+      );
+    }

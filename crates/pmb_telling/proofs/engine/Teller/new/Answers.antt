@@ -1,0 +1,10 @@
+use Rattle.std.proofs.Common.{refl}
+use Rattle.pmb_telling.proofs.Reading.{first_behind, words_begin}
+use Rattle.pmb_telling.proofs.engine.Teller.new.Goals as goal
+
+pub returns-clause-begins : goal.returns-clause-begins
+returns-clause-begins c = record {
+  made = record { choice = refl; profile = refl; reads = c.new-2.ensures.profile; bad_words = refl };
+  behind = first_behind _ _ _ _ (words_begin _ _ _ _ _ refl c.new-2.ensures.profile c.new-2.ensures.begins
+      c.new.ensures);
+}

@@ -1,0 +1,4 @@
+pub mod Text
+pub mod SoFar
+pub mod Tell
+pub mod machine

@@ -1,0 +1,319 @@
+//! From the text of a capture to the lines of its facts, in pieces.
+//!
+//! Between two bad words a scan reads on, and the stream is told. A bad word's bytes are taken
+//! until 32 have come or it has ended: then its line goes out. What is left of its line is taken
+//! and dropped, and a new scan begins after it.
+//!
+//! Its rows: `tests_tasks`, `src/captures.rt`; `tests/rows/json_objects.txt`, `log.txt`.
+
+ghost use Rattle.std.specs.Prelude.{◌≡◌, ◌⊎◌, ◌≢◌, ◌++◌, ◌≤◌, ◌<◌, ℕ, List, [], OnOk, IfOk, length};
+ghost use Rattle.pmb_bus.specs.Text.{front_word, open_word};
+ghost use Rattle.pmb_command.specs.Bus.{IsBus};
+ghost use Rattle.pmb_io.specs.Calls.{WriterTells};
+ghost use Rattle.pmb_io.specs.Engines.{PutsOut};
+ghost use Rattle.pmb_io.specs.Outgoing.{PutsText};
+ghost use Rattle.pmb_telling.specs.Tell.{WritesToldFront};
+ghost use Rattle.pmb_telling.specs.declared.engine.EngineState.TheVariants as inside;
+ghost use Rattle.pmb_telling.specs.machine.Standing.{HasEnded, HasPutOut, HasStopped, IsLess, StandsBehindBadWord, StandsInBadLine, StandsInBadWord, StandsInWords, TakesLine, teller_bad_words, teller_choice, teller_profile, teller_tally, last_word_lines, stops_for_good};
+ghost use Rattle.pmb_json_objects.specs.Counts.{after_bad_token};
+ghost use Rattle.pmb_fact_stream.specs.Before.{Before};
+ghost use Rattle.pmb_fact_stream.specs.Choice.{choice_data};
+ghost use Rattle.pmb_fact_stream.specs.Stream.{StreamKnows, stream_choice, stream_profile, stream_time};
+
+use crate::word_end::{behind, is_over, line_bytes, word_bytes};
+use crate::word_laws::bad_words_stand_there;
+use pmb_bus::laws::{ended_words_lead_on, spelled_has_no_bad_word, texts_may_be_cut_between_words};
+use pmb_fact_stream::laws::{open_times_stay, others_are_told};
+use pmb_fact_stream::{Choice, Stream};
+use pmb_io::{Engine, Flow, RunFault, Sink, Tally, Waiting};
+use pmb_reader::laws::some_packet_is_read;
+use pmb_scan::laws::scans_lead_on;
+use pmb_scan::{AfterBadToken, PieceEnd, Scan};
+use pmb_spans::laws::{each_list_has_spans, one_list_of_spans, spans_move};
+use pmb_table::Profile;
+
+/// What the next byte belongs to.
+#[derive(Clone, Copy)]
+enum EngineState {
+    /// Words that may be tokens.
+    Words,
+    /// A word that is no token, whose line is not out.
+    BadWord,
+    /// The rest of its line.
+    BadLine,
+}
+
+/// What is left of a piece after a bad line.
+enum PieceRest<'b> {
+    /// All of it is used.
+    Nothing,
+    /// No more is wanted.
+    Stop,
+    /// After the LF of the line.
+    Bytes(&'b [u8]),
+}
+
+/// From the text of a capture to the lines of its facts.
+#[derive(Drop)]
+pub(crate) struct Teller<'p> {
+    profile: &'p Profile,
+    bad_words: AfterBadToken,
+    scan: Scan<'p>,
+    stream: Stream<'p>,
+    inside: EngineState,
+}
+
+impl<'p> Teller<'p> {
+    /// Nothing was given yet.
+    pub(crate) fn new(
+        profile: &'p Profile,
+        choice: Choice<'p>,
+        bad_words: AfterBadToken,
+    ) -> Teller<'p>
+        ensures profile { teller_profile result ≡ profile.now }
+        ensures choice { teller_choice result ≡ choice_data choice.entry }
+        ensures bad_words { teller_bad_words result ≡ bad_words }
+        ensures begins { HasPutOut result result [] [] }
+    {
+        let Choice {
+            digits,
+            start,
+            devices,
+            ignored,
+            telling,
+        } = choice;
+        Teller {
+            profile,
+            bad_words,
+            scan: Scan::new(profile),
+            stream: Stream::new(
+                profile,
+                Choice {
+                    digits,
+                    start,
+                    devices,
+                    ignored,
+                    telling,
+                },
+            ),
+            inside: EngineState::Words,
+        }
+    }
+
+    /// How many packets came, and how many refusals and words that are no token.
+    pub(crate) fn tally(&self) -> Tally
+        ensures { result ≡ teller_tally self.now }
+    {
+        self.stream.tally()
+    }
+
+    /// Takes bytes up to the end of a bad line.
+    fn take_line<'b, W: Sink>(
+        &mut self,
+        bytes: &'b [u8],
+        waiting: &mut Waiting,
+        writer: &mut W,
+    ) -> Result<PieceRest<'b>, RunFault>
+        ensures takes { (start : Teller) (given text : List ℕ) → HasPutOut start self.old given text
+            → IfOk result (λ left. PutsOut (λ more. TakesLine start self.new given bytes.now left (text ++ more))
+            (W.told writer.old).held waiting.old.items (W.told writer.new).held waiting.new.items) }
+        ensures less { IfOk result (λ left. IsLess left (length bytes.now)) }
+        ensures failed { WriterTells (W.told writer.old) (W.told writer.new) result }
+    {
+        match self.inside {
+            EngineState::Words => self.take_words(bytes, waiting, writer),
+            EngineState::BadWord => self.take_bad_word(bytes, waiting, writer),
+            EngineState::BadLine => Ok(self.drop_line(bytes)),
+        }
+    }
+
+    /// Takes words up to the first that is no token, and then that one.
+    fn take_words<'b, W: Sink>(
+        &mut self,
+        bytes: &'b [u8],
+        waiting: &mut Waiting,
+        writer: &mut W,
+    ) -> Result<PieceRest<'b>, RunFault>
+        ensures takes { (start : Teller) (given text : List ℕ) → self.old.inside ≡ inside.Words → StandsInWords start self.old given text
+            → IfOk result (λ left. PutsOut (λ more. TakesLine start self.new given bytes.now left (text ++ more))
+            (W.told writer.old).held waiting.old.items (W.told writer.new).held waiting.new.items) }
+        ensures less { IfOk result (λ left. IsLess left (length bytes.now)) }
+        ensures failed { WriterTells (W.told writer.old) (W.told writer.new) result }
+    {
+        match self
+            .scan
+            .take_words(bytes, &mut self.stream, waiting, writer)?
+        {
+            PieceEnd::All => Ok(PieceRest::Nothing),
+            PieceEnd::Fault { used, .. } => {
+                spans_move();
+                bad_words_stand_there();
+                open_times_stay();
+                others_are_told();
+                // That the events may end here says which packets and refusals came before.
+                let _ = self.scan.truncation();
+                self.inside = EngineState::BadWord;
+                self.take_bad_word(behind(bytes, used), waiting, writer)
+            }
+        }
+    }
+
+    /// Takes the next bytes of a bad word and its line, up to the end of the line.
+    fn take_bad_word<'b, W: Sink>(
+        &mut self,
+        bytes: &'b [u8],
+        waiting: &mut Waiting,
+        writer: &mut W,
+    ) -> Result<PieceRest<'b>, RunFault>
+        ensures takes { (start : Teller) (given text : List ℕ) → self.old.inside ≡ inside.BadWord → StandsInBadWord bytes.now start self.old given text
+            → IfOk result (λ left. PutsOut (λ more. TakesLine start self.new given bytes.now left (text ++ more))
+            (W.told writer.old).held waiting.old.items (W.told writer.new).held waiting.new.items) }
+        ensures less { IfOk result (λ left. IsLess left (length bytes.now)) }
+        ensures failed { WriterTells (W.told writer.old) (W.told writer.new) result }
+    {
+        bad_words_stand_there();
+        let count = word_bytes(bytes, self.stream.word_length());
+        self.stream.take_text(&bytes[..count]);
+        let rest = behind(bytes, count);
+        if !is_over(rest, self.stream.word_length()) {
+            return Ok(PieceRest::Nothing);
+        }
+        self.end_bad_word(rest, waiting, writer)
+    }
+
+    /// Puts out the line of the bad word, of which no more is wanted, and drops what is left of
+    /// its line.
+    fn end_bad_word<'b, W: Sink>(
+        &mut self,
+        rest: &'b [u8],
+        waiting: &mut Waiting,
+        writer: &mut W,
+    ) -> Result<PieceRest<'b>, RunFault>
+        ensures takes { (start : Teller) (given text : List ℕ) → StandsBehindBadWord rest.now start self.old given text
+            → IfOk result (λ left. PutsOut (λ more. TakesLine start self.new given rest.now left (text ++ more))
+            (W.told writer.old).held waiting.old.items (W.told writer.new).held waiting.new.items) }
+        ensures less { IfOk result (λ left. IsLess left (length rest.now)) }
+        ensures failed { WriterTells (W.told writer.old) (W.told writer.new) result }
+    {
+        bad_words_stand_there();
+        match self.bad_words {
+            AfterBadToken::End => {
+                self.put_last_word(waiting, writer)?;
+                Ok(PieceRest::Stop)
+            }
+            AfterBadToken::Continue => {
+                self.stream.put_bad_word(waiting, writer)?;
+                self.inside = EngineState::BadLine;
+                Ok(self.drop_line(rest))
+            }
+        }
+    }
+
+    /// Drops what is left of a bad line. After its LF reading begins anew.
+    fn drop_line<'b>(&mut self, bytes: &'b [u8]) -> PieceRest<'b>
+        ensures takes { (start : Teller) (given text : List ℕ) → self.old.inside ≡ inside.BadLine → StandsInBadLine bytes.now start self.old given text
+            → TakesLine start self.new given bytes.now result text }
+        ensures less { IsLess result (length bytes.now) }
+    {
+        match line_bytes(bytes) {
+            None => {
+                self.stream.take_text(bytes);
+                PieceRest::Nothing
+            }
+            Some(count) => {
+                texts_may_be_cut_between_words();
+                self.stream.take_text(&bytes[..count + 1]);
+                self.stream.begin_anew();
+                self.scan = Scan::new(self.profile);
+                self.inside = EngineState::Words;
+                PieceRest::Bytes(behind(bytes, count + 1))
+            }
+        }
+    }
+
+    /// Puts out the line of the word under way, which is no token, and the last lines.
+    fn put_last_word<W: Sink>(
+        &mut self,
+        waiting: &mut Waiting,
+        writer: &mut W,
+    ) -> Result<(), RunFault>
+        ensures puts { (b : Before) → StreamKnows b self.old.stream
+            → OnOk result (PutsText (W.told writer.old).held waiting.old.items (W.told writer.new).held waiting.new.items (last_word_lines (teller_choice self.old) (stream_profile self.old.stream) (stream_time self.old.stream) b)) }
+        ensures knows { (b : Before) → StreamKnows b self.old.stream → OnOk result (StreamKnows (record b { counts = after_bad_token b.counts }) self.new.stream) }
+        ensures failed { WriterTells (W.told writer.old) (W.told writer.new) result }
+    {
+        self.stream.put_bad_word(waiting, writer)?;
+        self.stream.put_counts(waiting, writer)
+    }
+
+    /// The end of the words.
+    fn end_words<W: Sink>(&mut self, waiting: &mut Waiting, writer: &mut W) -> Result<(), RunFault>
+        ensures ends { (start : Teller) (bytes text : List ℕ) → StandsInWords start self.old bytes text
+            → OnOk result (PutsOut (λ more. HasEnded start self.new bytes (text ++ more))
+            (W.told writer.old).held waiting.old.items (W.told writer.new).held waiting.new.items) }
+        ensures failed { WriterTells (W.told writer.old) (W.told writer.new) result }
+    {
+        spans_move();
+        bad_words_stand_there();
+        open_times_stay();
+        others_are_told();
+        match self.scan.take_end(&mut self.stream, waiting, writer)? {
+            None => self.stream.put_end(self.scan.truncation(), waiting, writer),
+            Some(_) => {
+                // As in `take_words`.
+                let _ = self.scan.truncation();
+                self.put_last_word(waiting, writer)
+            }
+        }
+    }
+}
+
+impl<'p> Engine for Teller<'p> {
+    ghost Stands = { HasPutOut };
+
+    ghost Stops = { HasStopped };
+
+    ghost Ends = { HasEnded };
+
+    fn take<W: Sink>(
+        &mut self,
+        piece: &[u8],
+        waiting: &mut Waiting,
+        writer: &mut W,
+    ) -> Result<Flow, RunFault> {
+        let mut rest = piece;
+        'lines: loop {
+            match self.take_line(rest, waiting, writer)? {
+                PieceRest::Nothing => return Ok(Flow::More),
+                PieceRest::Stop => return Ok(Flow::Stop),
+                PieceRest::Bytes(bytes) => rest = bytes,
+            }
+        }
+    }
+
+    fn end<W: Sink>(&mut self, waiting: &mut Waiting, writer: &mut W) -> Result<(), RunFault> {
+        bad_words_stand_there();
+        match self.inside {
+            EngineState::Words => self.end_words(waiting, writer),
+            EngineState::BadWord => self.put_last_word(waiting, writer),
+            EngineState::BadLine => self.stream.put_counts(waiting, writer),
+        }
+    }
+
+    ghost stops_for_good = { stops_for_good };
+}
+
+/// What was put out so far is a beginning of what is written for the same bytes, if they end there.
+pub(crate) fn fronts_are_written()
+    ensures { (start now : Teller) (bytes text : List ℕ) → IsBus (teller_profile start) → HasPutOut start now bytes text
+        → WritesToldFront (teller_choice start) (teller_profile start) (teller_bad_words start) bytes text }
+{
+    spans_move();
+    ended_words_lead_on();
+    spelled_has_no_bad_word();
+    scans_lead_on();
+    others_are_told();
+    each_list_has_spans();
+    one_list_of_spans();
+    some_packet_is_read();
+}
