@@ -131,6 +131,7 @@ UNDER_SAMPLE = [
     (["show", "--sample"], CAPTURE),
     (["check", "--sample"], CAPTURE),
     (["json", "--sample"], CAPTURE),
+    (["log", "--sample"], CAPTURE),
     (["build", "--sample"], TRANSACTIONS),
     (["run", "--sample"], REQUESTS),
 ]
@@ -213,6 +214,7 @@ def large_inputs(program):
         (["show", "--sample"], capture),
         (["check", "--sample"], capture),
         (["json", "--sample"], capture),
+        (["log", "--sample"], capture),
         (["build", "--sample"], large_transactions()),
         (["run", "--sample"], large_requests()),
         (["encode", "linear11"], large_quantities()),

@@ -69,7 +69,7 @@ def small_reads(program, report):
             answer = program.run(words, text, **faults)
             so_far = outs[rows_within(front, rows, at - 1)]
             failed_read_holds(report, name_of(words, faults), answer, ordinary, so_far)
-            if words[0] not in ("show", "check", "json"):
+            if words[0] not in ("show", "check", "json", "log"):
                 # Of lines just those that have ended are answered. A packet may end before its row.
                 report.same(name_of(words, faults), so_far, answer.out)
             tried += 1
