@@ -1,0 +1,4 @@
+pub mod Spot
+pub mod Observed
+pub mod Observing
+pub mod Told

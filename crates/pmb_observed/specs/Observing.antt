@@ -1,0 +1,158 @@
+-- What a fact tells of a spot.
+use Rattle.std.specs.Prelude.{ℕ, ◌+◌, ◌*◌, Bool, true, false, Option, Some, None, List, [], ◌∷◌, ◌++◌, flat_map, fold}
+use Rattle.std.specs.List.{filter_map}
+use Rattle.pmb_coefficients.specs.Coefficients.{Coefficients}
+use Rattle.pmb_command.specs.declared.entry.Kind.{Kind}
+use Rattle.pmb_command.specs.declared.entry.Kind.TheVariants.{Raw, Linear11, Linear11Fixed, Vout}
+use Rattle.pmb_command.specs.declared.entry.Kind.TheVariants.{VoutSigned, Direct, Status}
+use Rattle.pmb_command.specs.Entry.{EntryParts}
+use Rattle.pmb_command.specs.Parts.{DeviceParts, device_with}
+use Rattle.pmb_facts.specs.Fact.{FactData, WhatData, Write, Read, Call, Refused, Alert, NoAlert, Other, Refusal}
+use Rattle.pmb_facts.specs.Fact.{BadToken}
+use Rattle.pmb_json_fields.specs.declared.basis.Basis.{Basis}
+use Rattle.pmb_json_fields.specs.declared.basis.Basis.TheVariants.{Told, Assumed}
+use Rattle.pmb_json_objects.specs.Seen.{SeenData, basis_at, entry_of, mode_at, page_at}
+use Rattle.pmb_keeper.specs.Setting.{Setting, seen_after}
+use Rattle.pmb_mean.specs.Numbers.{NumberData}
+use Rattle.pmb_mean.specs.Words.{direct_number, linear11_number, voltage_number}
+use Rattle.pmb_stats_bits.specs.Bits.{RegisterRead}
+use Rattle.pmb_unknown_start.specs.declared.mode.KnownMode.{KnownMode}
+use Rattle.pmb_unknown_start.specs.declared.mode.KnownMode.TheVariants.{Known, Unknown, NoPage}
+use Rattle.pmb_value.specs.declared.sign.Sign.{Sign}
+use Rattle.pmb_value.specs.declared.sign.Sign.TheVariants.{Signed, Unsigned}
+use Rattle.pmb_observed.specs.declared.spot.Spot.{Spot}
+use Rattle.pmb_observed.specs.Observed.{Observation, NumberAt, ReadAt}
+use Rattle.pmb_observed.specs.Spot.{page_key, spot_at}
+
+-- ---- numbers
+
+abbrev pub is_assumed : Basis → Bool
+is_assumed Told = false
+is_assumed Assumed = true
+
+-- an output voltage by VOUT_MODE, where that is known and the pages share one
+abbrev pub voltage : KnownMode → Basis → Sign → Option Coefficients → ℕ → Option NumberData
+voltage (Known mode) basis sign coefficients word = voltage_number mode sign coefficients word (is_assumed basis)
+voltage Unknown basis sign coefficients word = None
+voltage NoPage basis sign coefficients word = None
+
+-- a word, by the command's kind
+abbrev pub word_number : KnownMode → Basis → Option Coefficients → Kind → ℕ → Option NumberData
+word_number mode basis coefficients Raw word = None
+word_number mode basis coefficients Linear11 word = Some (linear11_number word)
+word_number mode basis coefficients (Linear11Fixed exponent) word = Some (linear11_number word)
+word_number mode basis coefficients Vout word = voltage mode basis Unsigned coefficients word
+word_number mode basis coefficients VoutSigned word = voltage mode basis Signed coefficients word
+word_number mode basis coefficients (Direct d) word = Some (direct_number d word false)
+word_number mode basis coefficients Status word = None
+
+-- two bytes, the low one first; nothing for another number of bytes
+abbrev pub number_of : KnownMode → Basis → Option Coefficients → Kind → List ℕ → Option NumberData
+number_of mode basis coefficients kind [] = None
+number_of mode basis coefficients kind (a ∷ []) = None
+number_of mode basis coefficients kind (low ∷ high ∷ []) = word_number mode basis coefficients kind (low + 256 * high)
+number_of mode basis coefficients kind (a ∷ b ∷ c ∷ bytes) = None
+
+-- ---- status registers
+
+abbrev pub read_of : ℕ → Option (List ℕ) → RegisterRead
+read_of word time = record { word = word; time = time }
+
+-- one byte, or two, the low one first; nothing for another number of bytes
+abbrev pub register_of : List ℕ → Option (List ℕ) → Option RegisterRead
+register_of [] time = None
+register_of (byte ∷ []) time = Some (read_of byte time)
+register_of (low ∷ high ∷ []) time = Some (read_of (low + 256 * high) time)
+register_of (a ∷ b ∷ c ∷ bytes) time = None
+
+-- what is read of a status register alone
+abbrev pub register_read : Kind → List ℕ → Option (List ℕ) → Option RegisterRead
+register_read Raw bytes time = None
+register_read Linear11 bytes time = None
+register_read (Linear11Fixed exponent) bytes time = None
+register_read Vout bytes time = None
+register_read VoutSigned bytes time = None
+register_read (Direct d) bytes time = None
+register_read Status bytes time = register_of bytes time
+
+-- ---- what is told
+
+abbrev pub number_at : Spot → Option NumberData → List Observation
+number_at spot None = []
+number_at spot (Some number) = NumberAt spot number ∷ []
+
+abbrev pub read_at : Spot → Option RegisterRead → List Observation
+read_at spot None = []
+read_at spot (Some read) = ReadAt spot read ∷ []
+
+module _ (seen : SeenData) (addr code : ℕ) where
+  -- the spot of a command of a device, on the page that is selected
+  abbrev pub spot_of : DeviceParts → EntryParts → Spot
+  spot_of device entry = spot_at addr code (page_key device.pages entry.paged (page_at seen addr))
+
+  -- data that are read or written
+  abbrev pub number_seen : DeviceParts → EntryParts → List ℕ → List Observation
+  number_seen device entry bytes = number_at (spot_of device entry)
+      (number_of (mode_at seen addr) (basis_at seen addr) device.vout_direct entry.kind bytes)
+
+  -- .. that are read
+  abbrev pub register_seen : DeviceParts → EntryParts → List ℕ → Option (List ℕ) → List Observation
+  register_seen device entry bytes time = read_at (spot_of device entry) (register_read entry.kind bytes time)
+
+  -- of a device and its command, if there are both
+  abbrev pub of_command : DeviceParts → Option EntryParts → (DeviceParts → EntryParts → List Observation)
+      → List Observation
+  of_command device None tells = []
+  of_command device (Some entry) tells = tells device entry
+
+  abbrev pub of_device : Option DeviceParts → (DeviceParts → EntryParts → List Observation) → List Observation
+  of_device None tells = []
+  of_device (Some device) tells = of_command device (entry_of (Some device) code) tells
+
+  -- data that were written
+  abbrev pub written : List ℕ → List Observation
+  written bytes = of_device (device_with addr seen.profile) (λ device entry. number_seen device entry bytes)
+
+  -- data that were read: a status register or a number
+  abbrev pub replied : List ℕ → Option (List ℕ) → List Observation
+  replied bytes time = of_device (device_with addr seen.profile)
+      (λ device entry. register_seen device entry bytes time ++ number_seen device entry bytes)
+
+-- what a fact tells, by what is known where its packet begins, and its time
+abbrev pub observed : SeenData → Option (List ℕ) → WhatData → List Observation
+observed seen time (Write part parts p) = written seen p.addr p.code p.bytes
+observed seen time (Read t) = replied seen t.addr t.code t.reply time
+observed seen time (Call t) = []
+observed seen time (Refused parts addr sent at_read) = []
+observed seen time (Alert t) = []
+observed seen time NoAlert = []
+observed seen time (Other addr) = []
+observed seen time (Refusal front event reason expected) = []
+observed seen time (BadToken word) = []
+
+abbrev pub observed_in : Setting → FactData → List Observation
+observed_in setting fact = observed (seen_after setting fact.before) fact.head.time fact.what
+
+-- what facts tell, one after the other
+abbrev pub observations : Setting → List FactData → List Observation
+observations setting facts = flat_map (observed_in setting) facts
+
+-- ---- times
+
+-- those that facts have, in order
+abbrev pub times : List FactData → List (List ℕ)
+times facts = filter_map (λ fact. fact.head.time) facts
+
+abbrev pub first_of : List (List ℕ) → Option (List ℕ)
+first_of [] = None
+first_of (time ∷ times) = Some time
+
+-- the first of them, and the last
+abbrev pub first_time : List FactData → Option (List ℕ)
+first_time facts = first_of (times facts)
+
+abbrev pub later_time : Option (List ℕ) → List ℕ → Option (List ℕ)
+later_time before time = Some time
+
+abbrev pub last_time : List FactData → Option (List ℕ)
+last_time facts = fold later_time None (times facts)
