@@ -6,10 +6,16 @@ examples, and on random inputs from a fixed seed.
 
 import array
 import bisect
+import builtins
+import collections
 import concurrent.futures
+import contextlib
 import copy
+import decimal
+import doctest
 import functools
 import glob
+import io
 import json
 import math
 import multiprocessing
@@ -18,10 +24,13 @@ import pickle
 import random
 import re
 import runpy
+import shutil
 import struct
 import subprocess
 import sys
+import tempfile
 import threading
+import typing
 from decimal import Decimal
 from fractions import Fraction
 
@@ -193,8 +202,126 @@ def compare_whole(program, command, profile, text, options={}):
     check(status == (1 if found.refusals else 0), f"{what}: {found.refusals} refusals, status {status}")
     if command == "json":
         objects = [json.loads(line) for line in right.splitlines()]
+        for it in objects:
+            compare_object(it)
         objects = [it for it in objects if it["kind"] not in ("device", "end")]
+        for it in objects:
+            if it.get("device"):
+                it["address"] = ADDRESSES[it["device"]]
         check(list(pmb.transactions(profile, text, **options)) == objects, f"transactions: {what}")
+
+
+ADDRESSES = {f"{address:02x}": address for address in range(128)}
+KINDS = {
+    typing.get_args(typing.get_type_hints(kind)["kind"])[0]: kind
+    for kind in vars(pmb.objects).values()
+    if hasattr(kind, "__total__") and "kind" in typing.get_type_hints(kind)
+}
+HINTS = {kind: typing.get_type_hints(found) for kind, found in KINDS.items()}
+# How many objects of a kind there were, how many had a key, and which words a key of it had.
+OBJECTS, WITH_KEY = collections.Counter(), collections.Counter()
+WORDS = collections.defaultdict(set)
+
+
+def is_of(value, hint):
+    """Whether a value has a type."""
+    origin, among = typing.get_origin(hint), typing.get_args(hint)
+    if origin is typing.Union:
+        return any(is_of(value, each) for each in among)
+    if origin is typing.Literal:
+        return value in among
+    if origin is list:
+        return type(value) is list and all(is_of(each, among[0]) for each in value)
+    # (a number without a point is an int)
+    return type(value) is hint or hint is float and type(value) is int
+
+
+def compare_object(it):
+    """The keys and values of an object of `pmb json`, beside the type of its kind."""
+    kind = it["kind"]
+    OBJECTS[kind] += 1
+    for key, value in it.items():
+        hint = HINTS[kind].get(key)
+        check(hint is not None and is_of(value, hint), f"{kind}: {key} is {value!r}, not {hint}")
+        WITH_KEY[kind, key] += 1
+        WORDS[kind, key].update(value if isinstance(value, list) else [value])
+
+
+def words_of(hint):
+    """The words that a type allows, and no others."""
+    among = typing.get_args(hint)
+    if typing.get_origin(hint) is typing.Literal:
+        return set(among)
+    return set().union(*map(words_of, among))
+
+
+def told_of_kinds():
+    """The kinds of objects, each with its keys, as docs/json.md has them."""
+    page = read("docs", "json.md").decode()
+    table = page.split("\n| `kind` |")[1].split("\n\n")[0]
+    for row in table.splitlines()[2:]:
+        kind, _, keys = row.strip("|").split("|")
+        kind, found = kind.strip(" `"), {"kind", *re.findall("`([a-z_]+)`", keys)}
+        if "what the data mean" in keys:
+            found |= {"value", "number", "mode", "raw", "bits" if kind == "read" else "clears"}
+        if kind not in ("device", "end"):
+            found |= {"at", "line", "column", "time"}
+        yield kind, found
+
+
+# Devices whose output voltages can't be read, each for another reason, and two with a name.
+RARE = """ignore = [0x50]
+[[device]]
+address = 0x58
+pec = "optional"
+name = "U1"
+pages = 2
+vout_mode = [0x14, 0x13]
+command = [{ code = 0xe0, name = "ASK", call = "two", paged = true }]
+"""
+for address, mode in ((0x60, 0x20), (0x61, 0x40), (0x62, 0x60), (0x63, 0x97)):
+    RARE += f"[[device]]\naddress = {address}\npec = 'optional'\nvout_mode = {mode}\n"
+
+
+def compare_kinds_of_objects(program):
+    """The types of objects beside the table in docs/json.md, and beside the objects of all captures
+    here: no object lacks a key that its type always has, and no type has a key or a word that no
+    object had."""
+    sample = read("docs", "profiles.md").split(b"## The sample profile")[1].split(b"```\n")[1]
+    page = read("docs", "packets.md").decode()
+    reasons = re.findall("(?m)^\\| `([A-Z][A-Za-z]+)` \\|.*\\| `(S [^|`]*)` \\|", page)
+    for _, capture in reasons:
+        compare_whole(program, "json", sample, capture.encode())
+    lines = [f"S {at << 1:02x} A 21 A 00 A 18 A P" for at in (0x60, 0x61, 0x62, 0x63)]
+    lines += [f"S {at << 1:02x} A 8b A S {at << 1 | 1:02x} A 00 A 18 N P" for at in range(0x60, 0x64)]
+    lines += ["S b0 A e0 A 01 A 02 A S b1 A 05 A 06 N P", "S 19 A b0 N P", "S 19 N P", "S a0 N P"]
+    lines += ["S c0 A 03 A S b0 A 03 A P", "S c0 A 03 A S b0 A 21 N P", "S b0 A 88 A S b1 N P"]
+    lines += ["S b0 hm", "S b0 A 03 A 46 N P", "S b0 A 03 A 47 N P", "S b0 N P", "S b0 A 7a A 80 A P"]
+    lines += ["S b0 A 00 A ff A P", "S b0 A 8b A S b1 A 00 A 18 N P", "S b0 A 21 A 00 A 18 A P"]
+    lines += ["S b0 A e0 A 01 A 02 A S b1 A 05 A 06 N P"]
+    lines += ["S b0 A 21 N P", "S b0 A 21 A 00 A 18 A A P", "S b0 A 88 A S b1 A 00 A d3 A f7 A P"]
+    timed = "".join(f"# {at}.5 s\n{line}\n" for at, line in enumerate(lines))
+    for text in (timed, timed + "S b0 A"):
+        for late in (False, True):
+            options = {"keep_going": True, "late": late}
+            compare_whole(program, "json", RARE.encode(), text.encode(), options)
+    found = words_of(HINTS["refusal"]["reason"])
+    check(found == {reason for reason, _ in reasons}, f"the reasons of docs/packets.md: {found}")
+    kinds = dict(told_of_kinds())
+    check(kinds.keys() == KINDS.keys(), f"the kinds: {set(KINDS)}, and not {set(kinds)}")
+    for kind, keys in kinds.items():
+        own = {"address"} if HINTS[kind].keys() - keys == {"address"} else set()
+        check(HINTS[kind].keys() == keys | own, f"{kind}: {set(HINTS[kind])}, and not {keys}")
+        check(bool(own) == (kind not in ("bad_token", "device", "end")), f"{kind}: {own}")
+        had = {key for key in keys if WITH_KEY[kind, key]}
+        check(had == keys, f"{kind}: no object had {keys - had}")
+        always = {key for key in keys if WITH_KEY[kind, key] == OBJECTS[kind]}
+        # (Python 3.8 can't tell)
+        required = set(getattr(KINDS[kind], "__required_keys__", always)) - own
+        check(required == always, f"{kind}: always there are {always}, and not {required}")
+        for key in keys & HINTS[kind].keys():
+            words = words_of(HINTS[kind][key]) - WORDS[kind, key]
+            check(not words, f"{kind}: no object had {words} as {key}")
 
 
 def compare_fault(program, profile, error):
@@ -330,7 +457,7 @@ def compare_kinds():
         check(answer(pmb.quantity_text, number) == "! TooLarge", f"the text of {number}")
     for code in (-1, 65536):
         check(answer(pmb.decode, "linear11", code) == "! BadCode", f"the code {code}")
-    check(pmb.command_name(256) is None and pmb.bit_name(0x79, -1) is None, "no such code")
+    check(pmb.command_name(0xFF) is None and pmb.bit_name(0x7A, 15) is None, "no name")
 
 
 def compare_floats():
@@ -388,9 +515,33 @@ def compare_floats():
             check(found is True, f"{number}: {found}")
 
 
+def canonical(codes, form):
+    """The values of codes, in their order, and the code that is written for each."""
+    found = {}
+    for code in codes:
+        value = pmb.decode(form, code)
+        # (in LINEAR11 that with the least exponent, and 0 for zero)
+        exponent = (code >> 11 ^ 16) - 16
+        if value not in found or value != 0 and exponent < (found[value] >> 11 ^ 16) - 16:
+            found[value] = code
+    return sorted(found), found
+
+
+def nearest(exact, values, code_of):
+    """What is written for an exact number, by looking at all values."""
+    if exact < values[0] or exact > values[-1]:
+        return "! Below" if exact < values[0] else "! Above"
+    at = bisect.bisect(values, exact)
+    near = values[max(at - 1, 0) : at + 1]
+    least = min(abs(value - exact) for value in near)
+    codes = [code_of[value] for value in near if abs(value - exact) == least]
+    return codes[0] if len(codes) == 1 else [code for code in codes if code % 2 == 0][0]
+
+
 def compare_neighbours():
-    """On both sides of each quantity at which the nearest code changes, ever so little beside
-    it."""
+    """On both sides of each quantity at which the nearest code changes, ever so little beside it;
+    half way between two values; and at any float. What is right is found in the list of all
+    values."""
     r = random.Random(53)
     for form in (
         "linear11",
@@ -401,10 +552,12 @@ def compare_neighbours():
         "direct:3,2,1",
         "direct:-32768,32767,-9",
         "direct:-7,32767,9",
+        pmb.Format.vout(0x1F, signed=True),
+        pmb.Format.vout(0x40, signed=True, direct=pmb.Format.direct(-3, 1, 2)),
     ):
         # (LINEAR11 with one exponent has the codes whose bits 15:11 are that)
         codes = range(29 << 11, 30 << 11) if form == "linear11:-3" else range(65536)
-        values = sorted({pmb.decode(form, code) for code in codes})
+        values, code_of = canonical(codes, form)
         # each such quantity, with what is encoded on either side of it
         ends = [(values[0], "! Below", values[0]), (values[-1], values[-1], "! Above")]
         places = [0, 1, len(values) // 2, len(values) - 2]
@@ -420,24 +573,26 @@ def compare_neighbours():
                     found = answer(pmb.encode, form, quantity)
                     found = pmb.decode(form, found) if isinstance(found, int) else found
                     check(found == near, f"encode {form} beside {middle}: {found}, and not {near}")
-        # any float: its nearest value, and the even code of two that are equally near
-        for _ in range(300):
+        # half way, in each type of number that can tell it
+        for middle, below, _ in ends[2:]:
+            right = nearest(middle, values, code_of)
+            check(right in (code_of[below], code_of[middle + middle - below]), f"{form}: {middle}")
+            with decimal.localcontext(decimal.Context(prec=60)):
+                others = [float(middle), Decimal(middle.numerator) / middle.denominator]
+            for quantity in [middle] + [each for each in others if Fraction(each) == middle]:
+                found = answer(pmb.encode, form, quantity)
+                check(found == right, f"encode {form} of {quantity!r}: {found}, and not {right}")
+        # any float and decimal
+        for at in range(600):
             number = struct.unpack("d", struct.pack("Q", r.getrandbits(64)))[0]
-            if r.randrange(3):
+            if at % 3:
                 number = math.ldexp(r.random() - 0.5, r.randrange(-40, 50))
+            if at % 3 == 2:
+                number = Decimal(number).scaleb(r.randrange(-9, 9))
             if not math.isfinite(number):
                 continue
-            exact = Fraction(number)
-            if exact < values[0] or exact > values[-1]:
-                right = {"! Below"} if exact < values[0] else {"! Above"}
-            else:
-                at = bisect.bisect(values, exact)
-                near = values[max(at - 1, 0) : at + 1]
-                least = min(abs(value - exact) for value in near)
-                right = {value for value in near if abs(value - exact) == least}
-            found = answer(pmb.encode, form, number)
-            found = pmb.decode(form, found) if isinstance(found, int) else found
-            check(found in right, f"encode {form} of {number!r}: {found}, and not {right}")
+            found, right = answer(pmb.encode, form, number), nearest(Fraction(number), values, code_of)
+            check(found == right, f"encode {form} of {number!r}: {found}, and not {right}")
 
 
 PLAIN = '[[device]]\naddress = 0x58\npec = "optional"\n'
@@ -472,6 +627,11 @@ def compare_wrong_types():
         (TypeError, pmb.decode, None, 3),
         (TypeError, pmb.quantity, 5),
         (TypeError, pmb.quantity_text, None),
+        (ValueError, pmb.command_name, 256),
+        (ValueError, pmb.command_name, -1),
+        (ValueError, pmb.bit_name, 0x179, 1),
+        (ValueError, pmb.bit_name, 0x79, 16),
+        (ValueError, pmb.bit_name, 0x79, -1),
         (TypeError, pmb.command_name, 136.0),
         (TypeError, pmb.command_name, "88"),
         (TypeError, pmb.bit_name, 0x79, "15"),
@@ -516,6 +676,78 @@ def compare_wrong_types():
         check([event.kind for event in pmb.events(given)][:2] == ["start", "byte"], f"{given!r}")
     check(pmb.json(PLAIN, "x\nS b0 A 03 A P", keep_going=2).packets == 1, "keep_going=2")
     check(pmb.command_name(True) == "OPERATION", "an int is a bool too")
+    one = Index(1)
+    check(pmb.pec(b"", one) == 1 and pmb.pec([one]) == pmb.pec(b"\1"), "pec of an index")
+    check(pmb.decode("linear11", one) == 1 and pmb.command_name(one) == "OPERATION", "an index")
+    check(pmb.encode(pmb.Format.direct(one, one, one), 0) == 10, "a format of an index")
+    check(pmb.bit_name(0x79, one) == pmb.bit_name(0x79, 1) is not None, "a bit that is an index")
+    check(pmb.json(PLAIN, "", [one], one) == pmb.json(PLAIN, "", [1], 1), "json of an index")
+
+
+class Index:
+    """What Python takes as an int, as it does numbers of numpy."""
+
+    def __init__(self, number):
+        self.number = number
+
+    def __index__(self):
+        return self.number
+
+
+def compare_names_of_arguments():
+    """What is wrong with an argument, word for word: its name, and what would be right."""
+    numbers = "data is bytes or a list of their numbers, "
+    seven = "an address in devices has seven bits: "
+    either = "an address in devices is an int or two hexadecimal digits, not "
+    options = "an address in devices is from 0 to 127, not "
+    for right, call, *given in (
+        (numbers + "not int", pmb.pec, 0xB0),
+        (numbers + "not NoneType", pmb.pec, None),
+        (numbers + "not items of 2 bytes", pmb.pec, array.array("H", [1])),
+        ("a byte of data is from 0 to 255, not 256", pmb.pec, [0, 256]),
+        ("a byte of data is an int, not str", pmb.pec, iter(["b0"])),
+        ("crc is from 0 to 255, not -1", pmb.pec, b"", -1),
+        ("crc is an int, not str", pmb.pec, b"", "00"),
+        ("format is a str or a pmb.Format, not NoneType", pmb.encode, None, 1),
+        ("format is a str or a pmb.Format, not int", pmb.Format.parse, 5),
+        ("m of format is an int, not str", pmb.encode, pmb.Format.direct("3", 2, 1), 1),
+        ("direct is a pmb.Format, not str", pmb.Format.vout, 0x40, False, "direct:1,2,3"),
+        ("quantity is a number or a str, not NoneType", pmb.encode, "linear11", None),
+        ("quantity is a finite number, not nan", pmb.encode, "linear11", math.nan),
+        ("code is an int, not float", pmb.decode, "linear11", 3.0),
+        ("code is from 0 to 255, not 256", pmb.command_name, 256),
+        ("bit is from 0 to 15, not 16", pmb.bit_name, 0x79, 16),
+        ("text is a str or bytes, not int", pmb.quantity, 5),
+        ("text is a str, bytes, or an iterable of such pieces, not int", pmb.events, 5),
+        ("a piece of text is a str or bytes, not int", list, pmb.events([5])),
+        ("profile is a str or bytes, not int", pmb.show, 5, ""),
+        ("capture is a str or bytes, not int", pmb.show, PLAIN, 5),
+        ("capture is a str or bytes, not int", pmb.check, PLAIN, 5),
+        ("capture is a str or bytes, not int", pmb.json, PLAIN, 5),
+        ("capture is a str or bytes, not int", pmb.transactions, PLAIN, 5),
+        ("lines is a str or bytes, not list", pmb.build, PLAIN, ["write 58 03"]),
+        ("requests is a str or bytes, not list", pmb.run, PLAIN, []),
+        ("text is a str or bytes, not NoneType", pmb.imported, "kernel", None),
+        ("bus is a str or bytes, not int", pmb.imported, "kernel", "", 0),
+        ("rate is from 1 to 18446744073, not 0", pmb.imported, "sigrok", "", None, 0),
+        ("source is a str, not bytes", pmb.imported, b"kernel", ""),
+        ("source is one of sigrok, saleae, beagle, kernel, smbus, not 'awk'", pmb.imported, "awk", ""),
+        ("devices is a list of addresses, not int", pmb.json, PLAIN, "", 0x58),
+        ("devices is a list of addresses, not str", pmb.json, PLAIN, "", "58"),
+        (seven + "0xd8 is the 8-bit form of 0x6c", pmb.json, PLAIN, "", [0xD8]),
+        (seven + "0xd8 is the 8-bit form of 0x6c", pmb.transactions, PLAIN, "", ["d8"]),
+        (options + "-1", pmb.json, PLAIN, "", [-1]),
+        (either + "float", pmb.json, PLAIN, "", [88.0]),
+        (either + "'0x58'", pmb.json, PLAIN, "", ["0x58"]),
+        ("digits is from 0 to 12, not 13", pmb.json, PLAIN, "", (), 13),
+        ("digits is an int, not str", pmb.transactions, PLAIN, "", (), "6"),
+        ("fixed_vout_mode needs late", pmb.json, PLAIN, "", (), 6, False, True),
+    ):
+        try:
+            found = call(*given)
+        except (TypeError, ValueError) as error:
+            found = str(error)
+        check(found == right, f"{call}{given!r}: {found!r}, and not {right!r}")
 
 
 def compare_keys():
@@ -530,6 +762,9 @@ def compare_keys():
         ("bad_token", None, None, None),
     ], f"the keys of objects: {kinds}")
     check([it.get("mode") for it in found] == [None, "assumed", None], f"what is assumed: {found}")
+    check([it.get("address") for it in found] == [0x50, 0x58, None], f"addresses: {found}")
+    (alert,) = pmb.transactions(PLAIN, "S 19 N P")
+    check(alert["device"] is None and "address" not in alert, f"an alert without device: {alert}")
     text = pmb.json(named, capture)
     check((text.packets, text.refusals) == (1, 1), f"others: {text.packets}, {text.refusals}")
     check(json.loads(text.splitlines()[-1])["others"] == 1, "others at the end")
@@ -538,11 +773,11 @@ def compare_keys():
 
 def check_raises(wrong, call, *given):
     try:
-        found = call(*given)
+        found = repr(call(*given))
     except Exception as error:
         # (a plain one, since no name of the program says so)
-        found = None if type(error) is wrong and str(error) else f"{type(error).__name__}: {error}"
-    check(found is None, f"{call}{given!r}: {found!r}, and no {wrong.__name__}")
+        found = wrong if type(error) is wrong and str(error) else f"{type(error).__name__}: {error}"
+    check(found is wrong, f"{call}{given!r}: {found}, and no {wrong.__name__}")
 
 
 def told(error):
@@ -586,6 +821,13 @@ def compare_copies():
             check(way(it) == it and type(way(it)) is type(it), f"{it!r} becomes {way(it)!r}")
         again = way(text)
         check((again.packets, again.refusals) == (1, 1), f"{again!r}")
+        # (what is not read yet)
+        for length in (3, 9000):
+            found = pmb.transactions(PLAIN, "S b0 A 03 A P\n" * length)
+            next(found)
+            again = way(found)
+            check([it["line"] for it in again] == list(range(2, length + 1)), f"{again}")
+            check([it["line"] for it in found] == list(range(2, length + 1)), f"{found}")
 
 
 def bad_token(text):
@@ -595,14 +837,14 @@ def bad_token(text):
 def compare_pools():
     """Calls in pools of processes, whose arguments, results and errors are pickled."""
     captures = ["", "S b0 A 03 A P", "S b0 A 03 A P x", "S S"]
-    right = [pmb.show(PLAIN, capture) for capture in captures]
+    shown = [pmb.show(PLAIN, capture) for capture in captures]
     bad = PLAIN.replace("0x58", "0xb0")
     for kind in ("fork", "spawn"):
         context = multiprocessing.get_context(kind)
         with context.Pool(2) as pool:
             found = pool.map_async(functools.partial(pmb.show, PLAIN), captures).get(60)
             packets = [it.packets for it in found]
-            check(found == right and packets == [0, 1, 1, 0], f"{kind}: {found}")
+            check(found == shown and packets == [0, 1, 1, 0], f"{kind}: {found}")
             for call, given, fault in (
                 (functools.partial(pmb.show, bad), "", pmb.ProfileError),
                 (bad_token, "S hm", pmb.TokenError),
@@ -619,6 +861,9 @@ def compare_pools():
         with concurrent.futures.ProcessPoolExecutor(2, context) as pool:
             found = list(pool.map(functools.partial(pmb.json, PLAIN), captures, timeout=60))
             check(found == [pmb.json(PLAIN, capture) for capture in captures], f"{kind}: futures")
+            found = pool.map(functools.partial(pmb.transactions, PLAIN), captures, timeout=60)
+            right = [list(pmb.transactions(PLAIN, capture)) for capture in captures]
+            check([list(it) for it in found] == right, f"{kind}: the objects of futures")
 
 
 def analysers():
@@ -782,9 +1027,71 @@ def compare_package():
     names = {}
     exec("from json import *; import json; from pmb import *", names)
     check(names["json"] is json, "from pmb import * replaces json")
+    taken = set(dir(builtins)) | set(getattr(sys, "stdlib_module_names", ())) | {"json", "typing"}
+    hidden = taken.intersection(pmb.__all__)
+    check(not hidden, f"from pmb import * hides {hidden}")
+    modules = {name for name, it in vars(pmb).items() if isinstance(it, type(pmb))}
+    check(not modules.intersection(pmb.__all__), f"from pmb import * brings in {modules}")
     check(pmb.__version__ == pmb.version(), pmb.__version__)
     for name in ("pyproject.toml", "wheel_of_clone.py"):
         check(f'"{pmb.__version__}"' in read("python", name).decode(), f"the version in {name}")
+    # each public name has an example, and all of them are right
+    public = [(pmb, name) for name in pmb.__all__ + ["json"]]
+    public += [(pmb.Format, name) for name in ("parse", "direct", "vout")]
+    public += [(pmb.objects, name) for name in pmb.objects.__all__ if name != "Object"]
+    for owner, name in public:
+        text = getattr(owner, name).__doc__ or ""
+        check(">>> " in text.replace(">>> import", ""), f"no example in {owner.__name__}.{name}")
+    for module in (pmb, pmb.objects):
+        printed = io.StringIO()
+        with contextlib.redirect_stdout(printed):
+            wrong, count = doctest.testmod(module)
+        check(wrong == 0 and count >= 40, f"{module.__name__}: {count} examples\n{printed.getvalue()}")
+
+
+def compare_program(program):
+    """`python3 -m pmb` is the released program, and says where there is none."""
+    def started(words, folder=None):
+        environment = {**os.environ, "PYTHONPATH": folder} if folder else None
+        words = [sys.executable, "-m", "pmb", *words]
+        done = subprocess.run(words, input=b"S b0 A 03 A P S", capture_output=True, env=environment)
+        return done.returncode, done.stdout.decode(), done.stderr.decode()
+
+    released = os.path.join(ROOT, "release", "pmb")
+    for words in (["show", "--sample"], ["json", "--sample", "--digits=2"], ["show", "x"], []):
+        done = subprocess.run([released, *words], input=b"S b0 A 03 A P S", capture_output=True)
+        right = done.returncode, done.stdout.decode(), done.stderr.decode()
+        check(started(words) == right, f"python3 -m pmb {words}: {started(words)}, and not {right}")
+    with tempfile.TemporaryDirectory() as folder:
+        package = os.path.join(folder, "pmb")
+        shutil.copytree(os.path.join(ROOT, "python", "pmb"), package)
+        shutil.copy(os.path.join(ROOT, "release", "libpmb.so"), package)
+        beside = os.path.join(package, "pmb")
+        right = 125, "", "pmb: this package has the library without the program, which would be "
+        found = started(["--version"], folder)
+        check(found == (*right[:2], right[2] + beside + "\n"), f"without the program: {found}")
+        # (one that may be read alone is started by the loader)
+        shutil.copyfile(released, beside)
+        found = started(["--version"], folder)
+        check(found == (0, f"pmb {pmb.version()}\n", ""), f"a program that may only be read: {found}")
+        with open(beside, "w") as file:
+            file.write("#!/no/such/shell\n")
+        os.chmod(beside, 0o755)
+        found = started(["--version"], folder)
+        check(found[0] == 125 and "can't be started" in found[2], f"a bad program: {found}")
+
+
+def compare_page():
+    """The blocks of Python in docs/library.md print what stands in their comments."""
+    blocks = re.findall("(?ms)^```python\n(.*?)^```$", read("docs", "library.md").decode())
+    check(len(blocks) >= 2, f"docs/library.md has {len(blocks)} blocks of Python")
+    for block in blocks:
+        printed = io.StringIO()
+        with contextlib.redirect_stdout(printed):
+            # (a file's own name, for what is found by it, such as classes that are pickled)
+            exec(compile(block, "docs/library.md", "exec"), {"__name__": "page"})
+        right = re.findall("(?m)^ *print\\(.*  # (.*)$", block)
+        check(right != [] and printed.getvalue().splitlines() == right, f"{block}{printed.getvalue()}")
 
 
 def compare_threads():
@@ -817,7 +1124,9 @@ def main():
     compare_kinds()
     compare_floats()
     compare_neighbours()
+    compare_kinds_of_objects(program)
     compare_wrong_types()
+    compare_names_of_arguments()
     compare_keys()
     compare_copies()
     compare_pools()
@@ -825,6 +1134,8 @@ def main():
     compare_imports(program, int(sys.argv[2]) if len(sys.argv) > 2 else 10000)
     compare_messages()
     compare_package()
+    compare_program(program)
+    compare_page()
     compare_threads()
     ran = subprocess.run([program, "--version"], capture_output=True)
     check(ran.stdout.decode().split()[-1] == pmb.version(), f"the version {pmb.version()}")

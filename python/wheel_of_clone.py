@@ -1,4 +1,4 @@
-"""Builds the wheel of a clone: the package, and in it the released library.
+"""Builds the wheel of a clone: the package, and in it the released library and program.
 
 It needs nothing but Python, so `pip install ./python` fetches nothing.
 """
@@ -6,10 +6,11 @@ It needs nothing but Python, so `pip install ./python` fetches nothing.
 import base64
 import hashlib
 import os
+import stat
 import zipfile
 
 HERE = os.path.dirname(os.path.abspath(__file__))
-LIBRARY = os.path.join(HERE, os.pardir, "release", "libpmb.so")
+RELEASE = os.path.join(HERE, os.pardir, "release")
 VERSION = "0.1.0"
 INFO = "pmb-{}.dist-info".format(VERSION)
 METADATA = """Metadata-Version: 2.1
@@ -32,25 +33,35 @@ def read(path):
 
 
 def files():
-    """Each file of the wheel but the last: its name and its bytes."""
+    """Each file of the wheel but the last: its name, its mode and its bytes."""
     package = os.path.join(HERE, "pmb")
     for name in sorted(os.listdir(package)):
         if name.endswith((".py", ".typed")):
-            yield "pmb/" + name, read(os.path.join(package, name))
-    yield "pmb/libpmb.so", read(LIBRARY)
-    yield INFO + "/METADATA", METADATA.encode()
-    yield INFO + "/WHEEL", WHEEL.encode()
+            yield "pmb/" + name, 0o644, read(os.path.join(package, name))
+    yield "pmb/libpmb.so", 0o755, read(os.path.join(RELEASE, "libpmb.so"))
+    # (python3 -m pmb starts it)
+    yield "pmb/pmb", 0o755, read(os.path.join(RELEASE, "pmb"))
+    yield INFO + "/METADATA", 0o644, METADATA.encode()
+    yield INFO + "/WHEEL", 0o644, WHEEL.encode()
+
+
+def entry(path, mode):
+    """What the archive says of a file. (1980 is as early as an archive can tell.)"""
+    found = zipfile.ZipInfo(path, (1980, 1, 1, 0, 0, 0))
+    found.external_attr = (stat.S_IFREG | mode) << 16
+    found.compress_type = zipfile.ZIP_DEFLATED
+    return found
 
 
 def build_wheel(wheel_directory, config_settings=None, metadata_directory=None):
     name = "pmb-{}-py3-none-{}.whl".format(VERSION, ".".join(SYSTEMS))
     record = ""
-    with zipfile.ZipFile(os.path.join(wheel_directory, name), "w", zipfile.ZIP_DEFLATED) as wheel:
-        for path, content in files():
-            wheel.writestr(path, content)
+    with zipfile.ZipFile(os.path.join(wheel_directory, name), "w") as wheel:
+        for path, mode, content in files():
+            wheel.writestr(entry(path, mode), content)
             digest = base64.urlsafe_b64encode(hashlib.sha256(content).digest()).rstrip(b"=")
             record += "{},sha256={},{}\n".format(path, digest.decode(), len(content))
-        wheel.writestr(INFO + "/RECORD", record + INFO + "/RECORD,,\n")
+        wheel.writestr(entry(INFO + "/RECORD", 0o644), record + INFO + "/RECORD,,\n")
     return name
 
 

@@ -12,22 +12,22 @@ import sys
 
 import pmb
 
-if len(sys.argv) > 1:
-    from smbus2 import SMBus, i2c_msg
-else:
+if len(sys.argv) == 1:
     from simulated import SMBus, i2c_msg
+else:
+    from smbus2 import SMBus, i2c_msg  # type: ignore
 
 ADDRESS, VOUT_MODE, VOUT_COMMAND, STATUS_WORD = 0x58, 0x20, 0x21, 0x79
 
 
-def write(bus, command, data):
+def write(bus: SMBus, command: int, data: bytes) -> None:
     """Writes the bytes of a command, and the packet error code."""
     packet = bytes([command]) + data
     code = pmb.pec(bytes([ADDRESS << 1]) + packet)
     bus.i2c_rdwr(i2c_msg.write(ADDRESS, packet + bytes([code])))
 
 
-def read(bus, command, length):
+def read(bus: SMBus, command: int, length: int) -> bytes:
     """The bytes of a command, whose packet error code is right."""
     reply = i2c_msg.read(ADDRESS, length + 1)
     bus.i2c_rdwr(i2c_msg.write(ADDRESS, [command]), reply)
@@ -37,7 +37,7 @@ def read(bus, command, length):
     return found[:length]
 
 
-def main():
+def main() -> None:
     with SMBus(int(sys.argv[1]) if len(sys.argv) > 1 else 1) as bus:
         vout = pmb.Format.vout(read(bus, VOUT_MODE, 1)[0])
         for wanted in ("0.9", "1.2", "3.3", "12", "128"):

@@ -7,6 +7,8 @@ recorded of them.
 On a bench they come from smbus2, and the capture from the analyser.
 """
 
+from typing import Iterator, List
+
 import pmb
 from simulated import SMBus, i2c_msg
 
@@ -24,14 +26,14 @@ read 58 21 : 00 00 pec
 """
 
 
-def messages(packet):
+def messages(packet: str) -> Iterator[i2c_msg]:
     """The messages of a packet's events, one from each START on: the bytes for a device, or room
     for those that it replies. The lowest bit of the address byte says which."""
-    legs = []
+    legs: List[List[int]] = []
     for event in pmb.events(packet):
         if event.kind == "start":
             legs.append([])
-        elif event.kind == "byte":
+        elif event.byte is not None:
             legs[-1].append(event.byte)
     for address, *data in legs:
         if address & 1:
@@ -40,14 +42,16 @@ def messages(packet):
             yield i2c_msg.write(address >> 1, data)
 
 
-def main():
+def main() -> None:
     bus = SMBus(1)
     for packet in pmb.build(PROFILE, LINES).splitlines():
         bus.i2c_rdwr(*messages(packet))
     found = pmb.check(PROFILE, bus.capture)
     print(found.packets, "packets,", found.refusals, "refusals")
     for it in pmb.transactions(PROFILE, bus.capture):
-        print(it["kind"], it["command"], it.get("value", it["bytes"]))
+        # (a refusal, say, has other keys)
+        if it["kind"] == "write" or it["kind"] == "read":
+            print(it["kind"], it["command"], it.get("value", it["bytes"]))
 
     # What can't be built is told with its place, as is what is wrong with a profile.
     for profile, line in ((PROFILE, "write 58 03"), (PROFILE.replace("0x58", "0xb0"), "")):

@@ -6,6 +6,7 @@ talks to a bus of the machine.
 """
 
 import errno
+from typing import Iterable, Iterator, NoReturn, Union
 
 import pmb
 
@@ -15,21 +16,21 @@ ADDRESS = 0x58
 class i2c_msg:
     """Bytes for a device, or, with `flags` 1, room for those that it replies."""
 
-    def __init__(self, address, flags, data):
+    def __init__(self, address: int, flags: int, data: bytes) -> None:
         self.addr, self.flags, self.len, self.data = address, flags, len(data), data
 
     @staticmethod
-    def write(address, buf):
+    def write(address: int, buf: Iterable[int]) -> "i2c_msg":
         return i2c_msg(address, 0, bytes(buf))
 
     @staticmethod
-    def read(address, length):
+    def read(address: int, length: int) -> "i2c_msg":
         return i2c_msg(address, 1, bytes(length))
 
-    def __iter__(self):
+    def __iter__(self) -> Iterator[int]:
         return iter(self.data)
 
-    def __len__(self):
+    def __len__(self) -> int:
         return self.len
 
 
@@ -37,18 +38,18 @@ class SMBus:
     """A bus with the converter. It keeps what is written to it, and refuses a packet without its
     error code. `capture` is what the analyser saw, as capture text."""
 
-    def __init__(self, bus=None, force=False):
+    def __init__(self, bus: Union[int, str, None] = None, force: bool = False) -> None:
         # VOUT_MODE, VOUT_COMMAND and STATUS_WORD
         self.registers = {0x20: b"\x17", 0x21: b"\0\0", 0x79: b"\x40\x88"}
         self.capture = ""
 
-    def __enter__(self):
+    def __enter__(self) -> "SMBus":
         return self
 
-    def __exit__(self, exc_type, exc_val, exc_tb):
+    def __exit__(self, exc_type: object, exc_val: object, exc_tb: object) -> None:
         pass
 
-    def i2c_rdwr(self, *i2c_msgs):
+    def i2c_rdwr(self, *i2c_msgs: i2c_msg) -> None:
         """Makes one packet of the messages: a START before each, and a STOP."""
         sent = b""
         for message in i2c_msgs:
@@ -74,6 +75,6 @@ class SMBus:
         if len(i2c_msgs) == 1 and not i2c_msgs[0].flags:
             self.registers[sent[1]] = sent[2:-1]
 
-    def refuse(self, number, why):
+    def refuse(self, number: int, why: str) -> NoReturn:
         self.capture += "N P\n"
         raise OSError(number, why)

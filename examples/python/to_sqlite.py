@@ -20,12 +20,12 @@ COLUMNS = (
 )
 
 
-def read(name):
+def read(name: str) -> bytes:
     with open(name, "rb") as file:
         return file.read()
 
 
-def load(database, profile, capture):
+def load(database: sqlite3.Connection, profile: bytes, capture: bytes) -> None:
     """Puts the packets and refusals of a capture into the table `packets`."""
     database.execute(
         "CREATE TABLE IF NOT EXISTS packets (at INTEGER, line INTEGER, time TEXT, kind TEXT, "
@@ -40,8 +40,8 @@ def load(database, profile, capture):
     database.commit()
 
 
-def main():
-    profile, capture, name = (sys.argv[1:] + [None] * 3)[:3]
+def main() -> None:
+    profile, capture, name = (sys.argv[1:] + [""] * 3)[:3]
     profile = profile or os.path.join(SESSIONS, "power_up.toml")
     capture = capture or os.path.join(SESSIONS, "power_up.txt")
     database = sqlite3.connect(name or ":memory:")

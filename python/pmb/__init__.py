@@ -16,9 +16,10 @@ devices under a profile; recordings of analysers and of the Linux kernel.
     >>> [event.byte for event in pmb.events("S b0 A 21 A P") if event.kind == "byte"]
     [176, 33]
 
-Every call may be made from several threads side by side. What is returned, and each error, can be
-pickled and copied, and so goes through pools of processes. An argument of a type that is not named
-here is a `TypeError`.
+Every call may be made from several threads side by side. What is returned, but for the iterator of
+`events`, and each error can be pickled and copied, and so goes through pools of processes. An
+argument of another type is a `TypeError` that names it. `pmb.objects` has the types of the objects
+that `transactions` gives, and `python3 -m pmb` is the program.
 """
 
 import ctypes
@@ -33,11 +34,13 @@ import re
 import sys
 from decimal import Decimal
 from fractions import Fraction
-from typing import Any, Dict, Iterable, Iterator, NamedTuple, Optional, Tuple, Union
+from typing import Any, Iterable, Iterator, NamedTuple, Optional, Tuple, Union
+
+from . import objects as objects
 
 __version__ = "0.1.0"
 
-# (not `json`, which `from pmb import *` would put in the place of Python's own)
+# (not `json`, which `from pmb import *` would put in the place of Python's own; and no module)
 __all__ = [
     "Error",
     "Event",
@@ -104,6 +107,13 @@ class Error(ValueError):
 
     `fault` is the fault's name, as the program prints it: `Below`, `BadExponent` and so on. `place`
     is the argument in which it lies: `format`, `quantity` or `code`.
+
+        >>> import pmb
+        >>> try:
+        ...     pmb.encode("linear11", "1e5")
+        ... except pmb.Error as error:
+        ...     print(error.fault, error.place, error, sep=", ")
+        BadDigit, quantity, BadDigit in quantity
     """
 
     def __init__(self, fault: str, place: str) -> None:
@@ -123,7 +133,16 @@ class ProfileError(Error):
     """A profile has a fault: `fault` is its name, as `BadPages`, and `place` is `profile`, or `device
     0`, or `device 0 command 2`. `device` and `command` are the numbers, counted from 0, or `None`.
     `hint` has the lines with which `pmb profile` helps, and may be empty. The error's text has them
-    too."""
+    too.
+
+        >>> import pmb
+        >>> try:
+        ...     pmb.show("[[device]]\\naddress = 0x58", "")
+        ... except pmb.ProfileError as error:
+        ...     print(error.fault, error.device, error.command, error, sep=", ")
+        MissingKey, 0, None, MissingKey in device 0
+          pec is missing, such as pec = "optional"
+    """
 
     def __init__(
         self, fault: str, device: Optional[int], command: Optional[int], hint: str = ""
@@ -147,7 +166,15 @@ class ProfileError(Error):
 
 class LineError(Error):
     """A line can't be built: `fault` is its fault as the program prints it, as `BadWord at 8`, and
-    `place` is `line 2`. `line` is the number, counted from 1."""
+    `place` is `line 2`. `line` is the number, counted from 1.
+
+        >>> import pmb
+        >>> try:
+        ...     pmb.build("[[device]]\\naddress = 0x58\\npec = 'on'", "write 58 03 pec\\nwrite 5")
+        ... except pmb.LineError as error:
+        ...     print(error.fault, error.line, error, sep=", ")
+        BadWord at 6, 2, BadWord at 6 in line 2
+    """
 
     def __init__(self, fault: str, line: int) -> None:
         super().__init__(fault, "line {}".format(line))
@@ -159,7 +186,15 @@ class LineError(Error):
 
 class TokenError(Error):
     """A word of a capture's text is no token: `fault` is `BadToken`, and `place` is `byte 5`. `at` is
-    the number of the word's first byte, counted from 0."""
+    the number of the word's first byte, counted from 0.
+
+        >>> import pmb
+        >>> try:
+        ...     list(pmb.events("S b0 hm"))
+        ... except pmb.TokenError as error:
+        ...     print(error.fault, error.at, error, sep=", ")
+        BadToken, 5, BadToken in byte 5
+    """
 
     def __init__(self, at: int) -> None:
         super().__init__("BadToken", "byte {}".format(at))
@@ -171,14 +206,27 @@ class TokenError(Error):
 
 class Event(NamedTuple):
     """An event of a bus: its kind is `start`, `byte`, `ack`, `nack` or `stop`; `byte` is the byte of a
-    `byte`, and else `None`."""
+    `byte`, and else `None`.
+
+        >>> import pmb
+        >>> next(pmb.events("b0"))
+        Event(kind='byte', byte=176)
+    """
 
     kind: str
     byte: Optional[int] = None
 
 
 class Text(str):
-    """What a call wrote, and how many packets and refusals it counted."""
+    """What a call wrote, a `str`, and how many packets and refusals it counted.
+
+        >>> import pmb
+        >>> text = pmb.show("[[device]]\\naddress = 0x58\\npec = 'optional'", "S b0 A 03 A P S")
+        >>> print(text, text.packets, text.refusals)
+        write 58 03 # CLEAR_FAULTS
+        # refusal at 7: Truncated, expected Byte
+         1 1
+    """
 
     packets: int
     refusals: int
@@ -198,6 +246,10 @@ class Format(NamedTuple):
     """A number format of two bytes: its kind, and the numbers that the kind asks for.
 
     Make one by `Format.parse`, or by one of the other methods.
+
+        >>> import pmb
+        >>> pmb.Format.parse("vout:17") == pmb.Format.vout(0x17)
+        True
     """
 
     kind: int
@@ -214,9 +266,13 @@ class Format(NamedTuple):
         digits, and M, B and R are DIRECT's coefficients.
 
         Any other text, or a number of more than 8 bits (16 for M and B), is a `BadFormat`.
+
+            >>> import pmb
+            >>> pmb.encode(pmb.Format.parse("direct:3,2,1"), 1)
+            50
         """
         if not isinstance(text, str):
-            raise _wrong_type("a format", "a str or a pmb.Format", text)
+            raise _wrong_type("format", "a str or a pmb.Format", text)
         if text == "linear11":
             return cls(_LINEAR11)
         kinds = {"linear11": _LINEAR11_FIXED, "ulinear16": _ULINEAR16, "slinear16": _SLINEAR16}
@@ -232,7 +288,12 @@ class Format(NamedTuple):
 
     @classmethod
     def direct(cls, m: int, b: int, r: int) -> "Format":
-        """DIRECT: a word Y is worth (Y * 10^-r - b) / m. m is not 0, and r is from -9 to 9."""
+        """DIRECT: a word Y is worth (Y * 10^-r - b) / m. m is not 0, and r is from -9 to 9.
+
+            >>> import pmb
+            >>> pmb.decode(pmb.Format.direct(3, 2, 1), 0)
+            Fraction(-2, 3)
+        """
         return cls(_DIRECT, m=m, b=b, r=r)
 
     @classmethod
@@ -240,7 +301,14 @@ class Format(NamedTuple):
         cls, mode: int, signed: bool = False, direct: Optional["Format"] = None
     ) -> "Format":
         """The format that a VOUT_MODE names, for a command whose linear words are unsigned, as
-        VOUT_COMMAND, or signed, as VOUT_TRIM; with the coefficients of a DIRECT format, if any."""
+        VOUT_COMMAND, or signed, as VOUT_TRIM; with the coefficients of a DIRECT format, if any.
+
+            >>> import pmb
+            >>> pmb.decode(pmb.Format.vout(0x17, signed=True), 0xffff)
+            Fraction(-1, 512)
+            >>> pmb.encode(pmb.Format.vout(0x40, direct=pmb.Format.direct(3, 2, 1)), 1)
+            50
+        """
         kind = _VOUT_SIGNED if signed else _VOUT
         if not (direct is None or isinstance(direct, Format)):
             raise _wrong_type("direct", "a pmb.Format", direct)
@@ -315,12 +383,17 @@ class _Result(ctypes.Structure):
     ]
 
 
-def _load() -> ctypes.CDLL:
+def _released() -> str:
+    """The folder of the released library and program: the package's own, or that of a clone."""
     here = os.path.dirname(os.path.abspath(__file__))
-    beside = os.path.join(here, "libpmb.so")
-    in_clone = os.path.join(here, os.pardir, os.pardir, "release", "libpmb.so")
+    if os.path.exists(os.path.join(here, "libpmb.so")):
+        return here
+    return os.path.join(os.path.dirname(os.path.dirname(here)), "release")
+
+
+def _load() -> ctypes.CDLL:
     try:
-        library = ctypes.CDLL(beside if os.path.exists(beside) else in_clone)
+        library = ctypes.CDLL(os.path.join(_released(), "libpmb.so"))
     except OSError as error:
         raise ImportError(
             "pmb needs 64-bit Python on Linux and x86-64, and this is {} on {}: {}".format(
@@ -367,20 +440,28 @@ _LIBRARY = _load()
 
 
 def version() -> str:
-    """The version of the library, as `0.1.0`."""
+    """The version of the library, as `0.1.0`.
+
+        >>> import pmb
+        >>> pmb.version() == pmb.__version__
+        True
+    """
     number = _LIBRARY.pmb_version()
     return "{}.{}.{}".format(number >> 16, number >> 8 & 0xFF, number & 0xFF)
 
 
 def pec(data: Union[bytes, Iterable[int]], crc: int = 0) -> int:
-    """The packet error code (SMBus 3.0 section 6.4) of bytes, after others whose code is `crc`.
+    """The packet error code (SMBus 3.0 section 6.4) of bytes, or of a list of their numbers, after
+    others whose code is `crc`.
 
     In a packet it covers every byte before it, address bytes included.
+
+        >>> import pmb
+        >>> hex(pmb.pec([0xb0, 0x03])), hex(pmb.pec(b"\\x03", pmb.pec(b"\\xb0")))
+        ('0x46', '0x46')
     """
-    if not 0 <= _index("crc", crc) < 256:
-        raise ValueError("crc is a byte, 0 to 255, and this is {}".format(crc))
-    found = _data(data)
-    return int(_LIBRARY.pmb_pec(crc, found, len(found)))
+    before, found = _within("crc", crc, 255), _data(data)
+    return int(_LIBRARY.pmb_pec(before, found, len(found)))
 
 
 def encode(format: Union[str, Format], quantity: Number) -> int:
@@ -389,6 +470,13 @@ def encode(format: Union[str, Format], quantity: Number) -> int:
     A number may have any size and any number of digits; one that is not finite is a `ValueError`.
     Raises an `Error` with what is wrong with the format, or else with the quantity's text, or else
     `Below` or `Above` for a quantity outside the format's range.
+
+        >>> import pmb
+        >>> [pmb.encode("ulinear16:-9", it) for it in (3.3, "3.3", pmb.quantity("33/10"))]
+        [1690, 1690, 1690]
+        >>> pmb.encode("linear11", 1e300)
+        Traceback (most recent call last):
+        pmb.Error: Above in quantity
     """
     named = _format(format)
     code = ctypes.c_uint16()
@@ -409,12 +497,18 @@ def decode(format: Union[str, Format], code: int) -> Fraction:
 
     Raises an `Error` with what is wrong with the format, or `BadCode` for a code that is not from 0
     to 65535.
+
+        >>> import pmb
+        >>> value = pmb.decode("linear11", 0xd301)
+        >>> value, float(value), f"{float(value):.3f}"
+        (Fraction(769, 64), 12.015625, '12.016')
     """
     named = _format(format)
     quantity = _Quantity()
-    in_range = 0 <= _index("a code", code) < 1 << 16
+    number = _index("code", code)
+    in_range = 0 <= number < 1 << 16
     status = _LIBRARY.pmb_decode(
-        ctypes.byref(named), code if in_range else 0, ctypes.byref(quantity)
+        ctypes.byref(named), number if in_range else 0, ctypes.byref(quantity)
     )
     _raise_fault(status)
     if not in_range:
@@ -425,7 +519,12 @@ def decode(format: Union[str, Format], code: int) -> Fraction:
 def quantity(text: Content) -> Fraction:
     """The quantity that a text spells: an optional `-`, digits, and then nothing, a point and
     digits, or a slash and digits. Raises an `Error`: `Empty`, `BadDigit`, `ZeroDenominator` or
-    `TooLarge`."""
+    `TooLarge`.
+
+        >>> import pmb
+        >>> pmb.quantity("-1.5"), pmb.quantity("2/6")
+        (Fraction(-3, 2), Fraction(1, 3))
+    """
     found = _parse(text)
     return Fraction(found.numerator, found.denominator)
 
@@ -433,7 +532,12 @@ def quantity(text: Content) -> Fraction:
 def quantity_text(quantity: Number) -> str:
     """The text of a quantity: its shortest exact decimal where one has at most 24 digits after the
     point, as `-1.5`, and otherwise numerator and denominator, as `-2/3`. One with a number of 2^62
-    or more in lowest terms is `TooLarge`."""
+    or more in lowest terms is `TooLarge`.
+
+        >>> import pmb
+        >>> pmb.quantity_text(1.5), pmb.quantity_text(pmb.decode("direct:3,2,1", 0))
+        ('1.5', '-2/3')
+    """
     number = _quantity(quantity)
     room, length = ctypes.create_string_buffer(46), ctypes.c_size_t()
     _raise_fault(_LIBRARY.pmb_quantity_text(number, room, len(room), ctypes.byref(length)))
@@ -442,21 +546,29 @@ def quantity_text(quantity: Number) -> str:
 
 def command_name(code: int) -> Optional[str]:
     """The name of a standard command (PMBus Part II Appendix I), as `READ_VIN` of 0x88; `None`
-    where the standard has none."""
-    if not 0 <= _index("a code", code) < 256:
-        return None
+    where the standard has none. A code is from 0 to 255.
+
+        >>> import pmb
+        >>> pmb.command_name(0x88), pmb.command_name(0xff)
+        ('READ_VIN', None)
+    """
+    byte = _within("code", code, 255)
     room, length = ctypes.create_string_buffer(33), ctypes.c_size_t()
-    status = _LIBRARY.pmb_command_name(code, room, len(room), ctypes.byref(length))
+    status = _LIBRARY.pmb_command_name(byte, room, len(room), ctypes.byref(length))
     return None if status == _NO_NAME else room.value.decode("ascii")
 
 
 def bit_name(code: int, bit: int) -> Optional[str]:
     """The name of a bit of a status command (PMBus Part II section 17), as `VOUT` of bit 15 of
-    0x79, STATUS_WORD; `None` where it has none. Bits are counted from 0 at the lowest."""
-    if not (0 <= _index("a code", code) < 256 and 0 <= _index("a bit", bit) < 256):
-        return None
+    0x79, STATUS_WORD; `None` where it has none. Bits are counted from 0, the lowest, to 15.
+
+        >>> import pmb
+        >>> pmb.bit_name(0x79, 15), pmb.bit_name(0x88, 15)
+        ('VOUT', None)
+    """
+    byte, place = _within("code", code, 255), _within("bit", bit, 15)
     room, length = ctypes.create_string_buffer(33), ctypes.c_size_t()
-    status = _LIBRARY.pmb_bit_name(code, bit, room, len(room), ctypes.byref(length))
+    status = _LIBRARY.pmb_bit_name(byte, place, room, len(room), ctypes.byref(length))
     return None if status == _NO_NAME else room.value.decode("ascii")
 
 
@@ -465,17 +577,21 @@ def events(text: Union[Content, Iterable[Content]]) -> Iterator[Event]:
 
     The text may come in pieces, cut anywhere: those of a list, or the lines of an open file. Raises a
     `TokenError` at the first word that is no token.
+
+        >>> import pmb
+        >>> [event.kind for event in pmb.events(["S b", "0 N P"])]
+        ['start', 'byte', 'nack', 'stop']
     """
     if isinstance(text, (str, bytes, bytearray, memoryview)):
         return _events(iter([text]))
-    return _events(iter(text))
+    return _events(_each("text", "a str, bytes, or an iterable of such pieces", text))
 
 
 def _events(pieces: Iterator[Content]) -> Iterator[Event]:
     lexer, event, used = _Lexer(), _Event(), ctypes.c_size_t()
     status = _NO_EVENT
     for piece in pieces:
-        given = _bytes(piece)
+        given = _bytes("a piece of text", piece)
         at, end = ctypes.cast(ctypes.c_char_p(given), ctypes.c_void_p).value or 0, len(given)
         while True:
             status = _LIBRARY.pmb_lex(
@@ -496,15 +612,28 @@ def _events(pieces: Iterator[Content]) -> Iterator[Event]:
 
 def show(profile: Content, capture: Content) -> Text:
     """What `pmb show` writes of a capture: a line for each packet, with what it says, and for each
-    refusal. Raises a `ProfileError`."""
-    return _text(_SHOW, profile, capture)
+    refusal. Raises a `ProfileError`.
+
+        >>> import pmb
+        >>> profile = "[[device]]\\naddress = 0x58\\npec = 'optional'"
+        >>> print(pmb.show(profile, "S b0 A 88 A S b1 A 00 A d3 N P"), end="")
+        read 58 88 : 00 d3 # READ_VIN 12
+    """
+    return _text(_SHOW, profile, _bytes("capture", capture))
 
 
 def check(profile: Content, capture: Content) -> Text:
     """What `pmb check` writes of a capture: a line for each refusal, and one with the numbers of
     packets and refusals, which the text has as `packets` and `refusals` too. Raises a
-    `ProfileError`."""
-    return _text(_CHECK, profile, capture)
+    `ProfileError`.
+
+        >>> import pmb
+        >>> profile = "[[device]]\\naddress = 0x58\\npec = 'optional'"
+        >>> found = pmb.check(profile, "S b0 A 03 A P")
+        >>> found, found.packets, found.refusals
+        ('packets 1 refusals 0\\n', 1, 0)
+    """
+    return _text(_CHECK, profile, _bytes("capture", capture))
 
 
 def build(profile: Content, lines: Content, strict: bool = True) -> Text:
@@ -512,8 +641,14 @@ def build(profile: Content, lines: Content, strict: bool = True) -> Text:
 
     Raises a `ProfileError`, and a `LineError` for the first line that has a fault. Where it is not
     `strict` the text has a comment for each such line.
+
+        >>> import pmb
+        >>> profile = "[[device]]\\naddress = 0x58\\npec = 'optional'"
+        >>> print(pmb.build(profile, "write 58 21 00 18 pec\\nwrite", strict=False), end="")
+        S b0 A 21 A 00 A 18 A f8 A P
+        # line 2: BadWord at 5
     """
-    text = _text(_BUILD, profile, lines)
+    text = _text(_BUILD, profile, _bytes("lines", lines))
     if strict and text.refusals:
         found = re.search("^# line ([0-9]+): (.*)$", text, re.MULTILINE)
         if found:
@@ -523,8 +658,15 @@ def build(profile: Content, lines: Content, strict: bool = True) -> Text:
 
 def run(profile: Content, requests: Content) -> Text:
     """What `pmb run` writes of request lines: what is recorded of each on a bus of simulated devices,
-    and its result. Raises a `ProfileError`."""
-    return _text(_RUN, profile, requests)
+    and its result. Raises a `ProfileError`.
+
+        >>> import pmb
+        >>> profile = "[[device]]\\naddress = 0x58\\npec = 'optional'"
+        >>> print(pmb.run(profile, "get 58 21"), end="")
+        S b0 A 21 A S b1 A 00 A 00 N P
+        # 0
+    """
+    return _text(_RUN, profile, _bytes("requests", requests))
 
 
 def json(
@@ -546,9 +688,14 @@ def json(
     token. Raises a `ProfileError`.
 
     The text has `packets` and `refusals`; packets to addresses that the profile ignores are neither.
+
+        >>> import pmb
+        >>> profile = "[[device]]\\naddress = 0x58\\npec = 'optional'"
+        >>> print(pmb.json(profile, "S b0 A 03 A P").splitlines()[-1])
+        {"kind":"end","packets":1,"refusals":0,"bad_tokens":0}
     """
     choice = _choice(devices, digits, late, fixed_vout_mode, keep_going)
-    return _text(_JSON, profile, capture, *choice)
+    return _text(_JSON, profile, _bytes("capture", capture), *choice)
 
 
 def transactions(
@@ -559,23 +706,27 @@ def transactions(
     late: bool = False,
     fixed_vout_mode: bool = False,
     keep_going: bool = False,
-) -> Iterator[Dict[str, Any]]:
+) -> Iterator[objects.Object]:
     """The packets of a capture in their order, and its refusals and bad words: dicts, those of `pmb
     json` without the counts at the end. Arguments and errors are those of `json`. Each is made when
     it is asked for, from the text of `json`, whose memory goes back as it is read.
 
-    Each has a `kind`. A `time` is a text, and is there where a comment tells it. A voltage whose
-    VOUT_MODE the capture has not told has `"mode": "assumed"`.
+    Each has a `kind`, and `pmb.objects` has a type for each kind. A `time` is a text, and is there
+    where a comment tells it. A voltage whose VOUT_MODE the capture has not told has `"mode":
+    "assumed"`. An object with a `device`, such as "58", also has its `address` as a number, 0x58;
+    where no device answered an alert, `device` is `None`, and there is no `address`.
 
         >>> import pmb
         >>> profile = "[[device]]\\naddress = 0x58\\npec = 'optional'\\nname = 'VDD'"
         >>> it = next(pmb.transactions(profile, "# 0.5 s\\nS b0 A 21 A 00 A 18 A P"))
         >>> it["time"], it["name"], it["command"], it["value"], it["mode"]
         ('0.5', 'VDD', 'VOUT_COMMAND', '12', 'assumed')
+        >>> it["device"], it["address"] == 0x58
+        ('58', True)
     """
     choice = _choice(devices, digits, late, fixed_vout_mode, keep_going)
-    room, told = _whole(_JSON, profile, capture, *choice)
-    return _objects(room, told.length)
+    room, told = _whole(_JSON, profile, _bytes("capture", capture), *choice)
+    return _Objects(room, told.length)
 
 
 def imported(
@@ -608,7 +759,7 @@ def imported(
     the library is older and has no such call, that is a `NotImplementedError`.
     """
     recorder, name = _recorder(source, bus, rate, unshifted)
-    given = _bytes(text)
+    given = _bytes("text", text)
     if _IMPORT is None:
         raise NotImplementedError("the library is older, and has no pmb_import")
     asked = (ctypes.byref(recorder), name, len(name), given, len(given))
@@ -620,17 +771,36 @@ def imported(
     return Text(capture, told.packets, told.refusals)
 
 
-def _objects(room: Union[bytearray, mmap.mmap], length: int) -> Iterator[Dict[str, Any]]:
-    read, at, back = _json.JSONDecoder().raw_decode, 0, 0
-    while at < length:
-        end = room.find(b"\n", at) + 1
-        it = read(room[at:end].decode("ascii"))[0]
-        if it["kind"] not in ("device", "end"):
-            yield it
-        at = end
-        if at - back >= _STEP and isinstance(room, mmap.mmap):
-            _give_back(room, back, at - at % _STEP - back)
-            back = at - at % _STEP
+_READ = _json.JSONDecoder().raw_decode
+
+
+class _Objects(Iterator[objects.Object]):
+    """The objects of a text of `json`, of which the counts at the end are left out."""
+
+    def __init__(self, room: Union[bytes, bytearray, mmap.mmap], length: int) -> None:
+        self._room, self._length, self._at, self._back = room, length, 0, 0
+
+    def __next__(self) -> Any:
+        room, at = self._room, self._at
+        while at < self._length:
+            end = room.find(b"\n", at) + 1
+            it = _READ(room[at:end].decode("ascii"))[0]
+            self._at = at = end
+            if at - self._back >= _STEP and isinstance(room, mmap.mmap):
+                _give_back(room, self._back, at - at % _STEP - self._back)
+                self._back = at - at % _STEP
+            if it["kind"] not in ("device", "end"):
+                device = it.get("device")
+                if device is not None:
+                    it["address"] = int(device, 16)
+                return it
+        # (all is read, and the text is given back)
+        self._room, self._length, self._at = b"", 0, 0
+        raise StopIteration
+
+    # A copy has what is not read yet.
+    def __reduce__(self) -> Tuple[Any, ...]:
+        return _Objects, (bytes(self._room[self._at : self._length]), self._length - self._at)
 
 
 def _give_back(room: mmap.mmap, start: int, length: int) -> None:
@@ -662,7 +832,21 @@ def _index(what: str, number: Any) -> int:
         raise _wrong_type(what, "an int", number) from None
 
 
-def _bytes(text: Any, what: str = "a text") -> bytes:
+def _within(what: str, number: Any, most: int, least: int = 0) -> int:
+    found = _index(what, number)
+    if not least <= found <= most:
+        raise ValueError("{} is from {} to {}, not {}".format(what, least, most, found))
+    return found
+
+
+def _each(what: str, wanted: str, given: Any) -> Iterator[Any]:
+    try:
+        return iter(given)
+    except TypeError:
+        raise _wrong_type(what, wanted, given) from None
+
+
+def _bytes(what: str, text: Any) -> bytes:
     """The bytes of a text."""
     if isinstance(text, str):
         return text.encode("utf-8", "surrogatepass")
@@ -677,33 +861,44 @@ def _data(data: Any) -> bytes:
     """Bytes of a bus. (`bytes(3)` would be three zeros.)"""
     if isinstance(data, bytes):
         return data
+    wanted = "bytes or a list of their numbers"
     if isinstance(data, (str, numbers.Number)):
-        raise _wrong_type("data", "bytes", data)
+        raise _wrong_type("data", wanted, data)
     try:
         itemsize = memoryview(data).itemsize
     except TypeError:
-        return bytes(data)
+        if hasattr(data, "__bytes__"):
+            return bytes(data)
+        found = list(_each("data", wanted, data))
+        try:
+            return bytes(found)
+        except (TypeError, ValueError):
+            return bytes([_within("a byte of data", it, 255) for it in found])
     if itemsize != 1:
-        raise TypeError("data is bytes, and this has items of {} bytes".format(itemsize))
+        raise TypeError("data is {}, not items of {} bytes".format(wanted, itemsize))
     return bytes(data)
 
 
 def _address(device: Any) -> int:
-    if isinstance(device, str) and re.fullmatch("[0-9A-Fa-f]{2}", device):
+    if isinstance(device, str):
+        if not re.fullmatch("[0-9A-Fa-f]{2}", device):
+            raise ValueError(
+                "an address in devices is an int or two hexadecimal digits, not {!r}".format(device)
+            )
         address = int(device, 16)
-    elif isinstance(device, str):
-        raise ValueError("the address {!r} does not have two hexadecimal digits".format(device))
     else:
-        address = _index("an address", device)
+        try:
+            address = operator.index(device)
+        except TypeError:
+            wanted = "an int or two hexadecimal digits"
+            raise _wrong_type("an address in devices", wanted, device) from None
     if 0x80 <= address < 0x100:
         raise ValueError(
-            "an address has seven bits: 0x{:02x} is the 8-bit form of 0x{:02x}".format(
+            "an address in devices has seven bits: 0x{:02x} is the 8-bit form of 0x{:02x}".format(
                 address, address >> 1
             )
         )
-    if not 0 <= address < 0x80:
-        raise ValueError("an address has seven bits, 0 to 0x7f, and this is {}".format(address))
-    return address
+    return _within("an address in devices", address, 0x7F)
 
 
 def _choice(
@@ -711,35 +906,29 @@ def _choice(
 ) -> Tuple[Any, bytes, int]:
     if isinstance(devices, str):
         raise _wrong_type("devices", "a list of addresses", devices)
-    try:
-        each = iter(devices)
-    except TypeError:
-        raise _wrong_type("devices", "a list of addresses", devices) from None
-    wanted = bytes(_address(device) for device in each)
-    if not 0 <= _index("digits", digits) <= 12:
-        raise ValueError("digits are from 0 to 12, and these are {}".format(digits))
+    each = _each("devices", "a list of addresses", devices)
+    wanted = bytes([_address(device) for device in each])
+    most_digits = _within("digits", digits, 12)
     if fixed_vout_mode and not late:
         raise ValueError("fixed_vout_mode needs late")
     start = (1 if fixed_vout_mode else 2) if late else 0
-    return ctypes.byref(_Choice(digits, start, 1 if keep_going else 0)), wanted, len(wanted)
+    return ctypes.byref(_Choice(most_digits, start, 1 if keep_going else 0)), wanted, len(wanted)
 
 
 def _recorder(source: Any, bus: Any, rate: Any, unshifted: Any) -> Tuple[_Recorder, bytes]:
     """What wrote a recording, and the name of its bus."""
     if not isinstance(source, str):
-        raise _wrong_type("a source", "a str", source)
+        raise _wrong_type("source", "a str", source)
     if source not in _SOURCES:
-        named = ", ".join(_SOURCES)
-        raise ValueError("a source is one of {}, and this is {!r}".format(named, source))
-    name = b"" if bus is None else _bytes(bus, "a bus")
-    if rate is not None and not 1 <= _index("a rate", rate) <= _MOST_RATE:
-        raise ValueError("a rate is from 1 to {}, and this is {}".format(_MOST_RATE, rate))
+        raise ValueError("source is one of {}, not {!r}".format(", ".join(_SOURCES), source))
+    name = b"" if bus is None else _bytes("bus", bus)
+    samples = 0 if rate is None else _within("rate", rate, _MOST_RATE, 1)
     if source != "sigrok" and (rate is not None or unshifted):
-        raise ValueError("rate and unshifted are for sigrok alone, and not for {}".format(source))
+        raise ValueError("rate and unshifted are for sigrok alone, not for {}".format(source))
     if source == "beagle" and bus is not None:
-        raise ValueError("a recording of a Beagle has one bus, without a name")
+        raise ValueError("bus is not for beagle, whose recordings have one bus without a name")
     recorder = _Recorder(
-        0 if rate is None else operator.index(rate),
+        samples,
         _SOURCES.index(source),
         0 if bus is None else 1,
         1 if unshifted else 0,
@@ -808,10 +997,10 @@ def _filled(
 
 
 def _whole(
-    function: Tuple[Any, int], profile: Content, text: Content, *more: Any
+    function: Tuple[Any, int], profile: Content, given: bytes, *more: Any
 ) -> Tuple[Union[bytearray, mmap.mmap], _Result]:
     """What a function writes under a profile, in its room, and what it tells."""
-    toml, given = _bytes(profile, "a profile"), _bytes(text)
+    toml = _bytes("profile", profile)
     room, told = _filled(function, len(given), toml, len(toml), given, len(given), *more)
     if told.status == _NO_MEMORY:
         raise MemoryError("no memory for the profile")
@@ -822,8 +1011,8 @@ def _whole(
     return room, told
 
 
-def _text(function: Tuple[Any, int], profile: Content, text: Content, *more: Any) -> Text:
-    room, told = _whole(function, profile, text, *more)
+def _text(function: Tuple[Any, int], profile: Content, given: bytes, *more: Any) -> Text:
+    room, told = _whole(function, profile, given, *more)
     written = _str(room, told)
     # (a Text is a copy, and two of a long text are enough)
     del room
@@ -858,33 +1047,31 @@ def _integer(text: str, bits: int) -> int:
     digits = text.lstrip("-").lstrip("0")
     number = int(digits or "0") if len(digits) < 10 else 1 << 32
     number = -number if text[0] == "-" else number
-    return _fitting(number, bits)
+    return _fitting("format", number, -(1 << bits - 1), (1 << bits - 1) - 1)
 
 
-def _fitting(number: int, bits: int) -> int:
-    if not -(1 << bits - 1) <= _index("a number of a format", number) < 1 << bits - 1:
+def _fitting(what: str, number: Any, least: int, most: int) -> int:
+    found = _index(what, number)
+    if not least <= found <= most:
         raise Error("BadFormat", "format")
-    return number
+    return found
 
 
 def _format(format: Union[str, Format]) -> _Format:
     if not isinstance(format, Format):
         format = Format.parse(format)
-    for number in (format.kind, format.mode):
-        if not 0 <= _index("a number of a format", number) < 256:
-            raise Error("BadFormat", "format")
     return _Format(
-        format.kind,
-        _fitting(format.exponent, 8),
-        format.mode,
-        _fitting(format.r, 8),
-        _fitting(format.m, 16),
-        _fitting(format.b, 16),
+        _fitting("kind of format", format.kind, 0, 255),
+        _fitting("exponent of format", format.exponent, -128, 127),
+        _fitting("mode of format", format.mode, 0, 255),
+        _fitting("r of format", format.r, -128, 127),
+        _fitting("m of format", format.m, -32768, 32767),
+        _fitting("b of format", format.b, -32768, 32767),
     )
 
 
 def _parse(text: Content) -> _Quantity:
-    given, found = _bytes(text), _Quantity()
+    given, found = _bytes("text", text), _Quantity()
     _raise_fault(_LIBRARY.pmb_quantity_parse(given, len(given), ctypes.byref(found)))
     return found
 
@@ -906,11 +1093,11 @@ def _exact(quantity: Any) -> Fraction:
     elif isinstance(quantity, numbers.Rational):
         return Fraction(int(quantity.numerator), int(quantity.denominator))
     elif not (isinstance(quantity, numbers.Real) and hasattr(quantity, "as_integer_ratio")):
-        raise _wrong_type("a quantity", "a number or a str", quantity)
+        raise _wrong_type("quantity", "a number or a str", quantity)
     try:
         numerator, denominator = quantity.as_integer_ratio()
     except (OverflowError, ValueError):
-        raise ValueError("a quantity is a finite number, and this is {}".format(quantity)) from None
+        raise ValueError("quantity is a finite number, not {}".format(quantity)) from None
     return Fraction(int(numerator), int(denominator))
 
 

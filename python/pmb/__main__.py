@@ -1,0 +1,47 @@
+"""Runs the released program with the words of the command line:
+
+    python3 -m pmb show --sample <capture.txt
+
+It stands beside the library, and takes the place of Python's process. Where there is none that can
+start, the exit status is 125, as it is of the program's launcher.
+"""
+
+import os
+import signal
+import sys
+from typing import List
+
+from . import _released
+
+# What starts a program that may be read and not executed, and where there is no glibc. Each is a
+# name that the system gives to it.
+_LOADERS = ("/lib64/ld-linux-x86-64.so.2", "/lib/ld-musl-x86_64.so.1")
+
+
+def _started(program: str) -> List[str]:
+    """The words that start the program."""
+    if os.access(program, os.X_OK) and os.path.exists(_LOADERS[0]):
+        return [program]
+    return [loader for loader in _LOADERS if os.path.exists(loader)][:1] + [program]
+
+
+def main() -> None:
+    """Runs the program, and does not return."""
+    program = os.path.join(_released(), "pmb")
+    if not os.path.exists(program):
+        why = "this package has the library without the program, which would be {}".format(program)
+    else:
+        words = _started(program)
+        # (Python ignores these two, and the program would ignore them from then on)
+        signal.signal(signal.SIGPIPE, signal.SIG_DFL)
+        signal.signal(signal.SIGXFSZ, signal.SIG_DFL)
+        try:
+            os.execv(words[0], words + sys.argv[1:])
+        except OSError as error:
+            why = "the program can't be started: {}: {}".format(words[0], error.strerror)
+    print("pmb: " + why, file=sys.stderr)
+    sys.exit(125)
+
+
+if __name__ == "__main__":
+    main()
