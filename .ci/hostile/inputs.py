@@ -132,10 +132,12 @@ UNDER_SAMPLE = [
     (["check", "--sample"], CAPTURE),
     (["json", "--sample"], CAPTURE),
     (["log", "--sample"], CAPTURE),
+    (["stats", "--sample"], CAPTURE),
+    (["stats", "--sample", "--json"], CAPTURE),
     (["build", "--sample"], TRANSACTIONS),
     (["run", "--sample"], REQUESTS),
 ]
-BEHIND_A_PROFILE = [([words[0]], rows) for words, rows in UNDER_SAMPLE]
+BEHIND_A_PROFILE = [([words[0]] + words[2:], rows) for words, rows in UNDER_SAMPLE]
 # `profile`, which reads no more than a profile, and with `--sample` nothing.
 DESCRIPTIONS = [(["profile"], SMALL_BUS + b"%%\n"), (["profile", "--sample"], b"")]
 # The words of each subcommand that reads a profile.
@@ -215,6 +217,8 @@ def large_inputs(program):
         (["check", "--sample"], capture),
         (["json", "--sample"], capture),
         (["log", "--sample"], capture),
+        (["stats", "--sample"], capture),
+        (["stats", "--sample", "--json"], capture),
         (["build", "--sample"], large_transactions()),
         (["run", "--sample"], large_requests()),
         (["encode", "linear11"], large_quantities()),

@@ -73,9 +73,11 @@ def output_that_cannot_be_written(program, report):
 
 def closed_pipe(program, report):
     """`| head -n 1`: the pipe is closed once it has given something, and is far too small for the
-    rest. No signal ends the program."""
+    rest. No signal ends the program. What `stats` writes is too little for that."""
     inputs = [(["profile"], all_commands(LIMIT).encode())]
     for words, rows in UNDER_SAMPLE + CONVERSIONS + IMPORTS:
+        if words[0] == "stats":
+            continue
         row = rows[3] if words[0] == "check" else rows[0]
         inputs.append((words, row * (2 * MEGABYTE // len(row))))
     for words, text in inputs:

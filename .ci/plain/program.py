@@ -2,7 +2,7 @@
 
 import re
 
-from . import devices, lines, log, notes, numbers, objects, packets, profiles, reading
+from . import devices, lines, log, notes, numbers, objects, packets, profiles, reading, stats
 from .numbers import Fault
 
 
@@ -19,6 +19,12 @@ def program(words, given):
         words, choice = flags(words)
         told = {"json": objects.json, "log": log.log}[words[0]]
         tasks[words[0]] = lambda profile, matter: telling(told(profile, matter, choice))
+    if words[:1] == ["stats"]:
+        try:
+            words, work = stats_flags(words)
+        except Fault as fault:
+            return 2, b"", b"pmb: stats: %s\n" % str(fault).encode()
+        tasks["stats"] = work
     if words == [words[0], "--sample"] and words[0] in tasks:
         return tasks[words[0]](profiles.SAMPLE, given)
     if len(words) == 1 and words[0] in tasks:
@@ -93,6 +99,52 @@ def telling(told):
     """Of a text, and how many refusals and bad words it tells."""
     text, bad = told
     return 1 if bad else 0, text.encode(), b""
+
+
+def stats_flags(words):
+    """The words without the flags of `stats`, and what it does then."""
+    kept, left = words[:1], list(words[1:])
+    choice, is_json, fail_on = objects.Choice(), False, None
+    digits, devices = None, []
+    while left:
+        flag = left.pop(0)
+        if flag == "--late":
+            choice = choice._replace(late=True)
+        elif flag == "--fixed-vout-mode":
+            choice = choice._replace(fixed=True)
+        elif flag == "--keep-going":
+            choice = choice._replace(keep_going=True)
+        elif flag == "--json":
+            is_json = True
+        elif flag == "--digits":
+            digits = left.pop(0)
+        elif flag == "--device":
+            devices.append(left.pop(0))
+        elif flag == "--fail-on":
+            fail_on = left.pop(0).split(",")
+        else:
+            kept.append(flag)
+    check_flags(choice, digits, devices, fail_on)
+    digits = (6 if is_json else 4) if digits is None else int(digits)
+    choice = choice._replace(digits=digits, devices=tuple(int(one, 16) for one in devices))
+
+    def work(profile, matter):
+        text, is_bad = stats.stats(profile, matter, choice, is_json, fail_on)
+        return 1 if is_bad else 0, text.encode(), b""
+
+    return kept, work
+
+
+def check_flags(choice, digits, devices, fail_on):
+    """The first fault of flags that ask for nothing."""
+    if choice.fixed and not choice.late:
+        raise Fault("NeedsLate")
+    if digits is not None and not (re.fullmatch("[0-9]+", digits) and int(digits) <= 12):
+        raise Fault("BadDigits")
+    if not all(re.fullmatch("[0-7][0-9a-fA-F]", one) for one in devices):
+        raise Fault("BadAddress")
+    if not set(fail_on or []) <= set(stats.WORDS):
+        raise Fault("BadFailOn")
 
 
 def check(profile, given):

@@ -1,7 +1,7 @@
 """The rows that `.ci/rows` starts from: words and an input each, as the pages, the examples and
 the standards' tables have them."""
 
-from . import profiles
+from . import profiles, stats
 from .profiles import example
 
 # Captures under the sample profile.
@@ -94,6 +94,16 @@ TIMED = """
 S b2 A 21 A 00 A 18 A P/S b2 A 20 A 14 A P/S b2 A 21 A 00 A 18 A P/S b2 A 12 A P/S b2 A 21 A 00 A 18 A P
 S b0 A 00 A ff A P/S b0 A 20 A 14 A P/S b0 A 05 A 03 A 00 A 20 A 13 A P/S b0 A 8b A S b1 A 00 A 18 N P
 S b0 A 00 A 01 A P/S b0 A 20 A 14 A P/S b2 A 03 A S b0 A 16 A P/S b0 A 22 A 00 A 18 A P
+"""
+
+# Captures whose registers change, and whose numbers have a mean; / ends a line.
+REGISTERS = """
+# 1 s/S b0 A 7a A S b1 A 10 N P/# 2 s/S b0 A 7a A S b1 A 00 N P/S b0 A 7a A S b1 A 30 N P/# 4 s/S b0 A 7a A S b1 A 20 N P
+# 1 s/S b2 A 79 A S b3 A ff A ff N P/# 2.5 s/S b2 A 79 A S b3 A 40 A 08 N P/# 3 s/S b2 A 79 A S b3 A 00 A 00 N P
+S b0 A 00 A ff A P/# 1 s/S b0 A 7e A S b1 A ff N P/S b0 A 00 A 05 A P/# 2 s/S b0 A 7e A S b1 A 26 N P/# 3 s/S b0 A 7e A S b1 A 02 N P
+S b0 A 8d A S b1 A 01 A f8 N P/S b0 A 8d A S b1 A 01 A f8 N P/S b0 A 8d A S b1 A 01 A 00 N P/S b0 A 8d A S b1 A ff A 7f N P
+S b0 A d0 A 32 A 00 A P/S b0 A d0 A S b1 A 00 A 80 N P/S b0 A d0 A S b1 A ff A 7f N P/S b0 A 00 A 01 A P/S b0 A 35 A 01 A 80 A S 40 N P
+S b2 A 21 A 00 A 18 A P/S b2 A 20 A 1e A P/S b2 A 21 A 00 A 18 A P/S b2 A 22 A ff A ff A P/S b2 A 20 A 97 A P/S b2 A 21 A 00 A 18 A P
 """
 
 # Transaction lines under the sample profile.
@@ -302,8 +312,8 @@ def rows():
     """All rows."""
     found = [(["show", "--sample"], b""), (["build", "--sample"], b"\n"), (["show"], b"")]
     for capture in lines_of(CAPTURES):
-        found += [([task, "--sample"], capture) for task in ("show", "check", "json", "log")]
-    found += rows_with_flags("json") + rows_with_flags("log")
+        found += [([task, "--sample"], capture) for task in ("show", "check", "json", "log", "stats")]
+    found += rows_with_flags("json") + rows_with_flags("log") + stats_rows()
     found += [(["build", "--sample"], line + b"\n") for line in lines_of(TRANSACTIONS)]
     found.append((["build", "--sample"], TRANSACTIONS.encode()))
     found.append((["build", "--sample"], b"write 58 03\r\nwrite 58 03\r\r\n\r\nwrite # 5\r"))
@@ -323,6 +333,21 @@ def rows_with_flags(task):
         text = capture.replace(b"/", b"\n")
         for words in ([], ["--keep-going"], ["--late"], ["--late", "--fixed-vout-mode"]):
             found.append(([task, "--sample"] + words, text))
+    return found
+
+
+def stats_rows():
+    """Captures under the flags of `stats`."""
+    flags = [["--json"], ["--json", "--late"], ["--late", "--fixed-vout-mode"], ["--keep-going"],
+             ["--json", "--digits", "0"], ["--digits", "12"], ["--json", "--device", "58"],
+             ["--device", "59", "--device", "20"], ["--fail-on", "x"], ["--fixed-vout-mode"],
+             ["--digits", "13"], ["--device", "80"], ["--fail-on", "nacks,"]]
+    flags += [["--fail-on", words] for words in (*stats.WORDS, "faults,none-read")]
+    found = [(["stats", "--sample"] + words, JSON_CAPTURE.encode()) for words in flags]
+    for capture in lines_of(TIMED) + lines_of(REGISTERS):
+        text = capture.replace(b"/", b"\n")
+        for words in ([], ["--json"], ["--json", "--late"], ["--json", "--keep-going"]):
+            found.append((["stats", "--sample"] + words, text))
     return found
 
 
@@ -402,14 +427,14 @@ def rows_behind_profiles():
     found += [(["show"], sample + capture) for capture in lines_of(CAPTURES)[:12]]
     found += [(["build"], sample + line) for line in lines_of(TRANSACTIONS)[:8]]
     for capture in lines_of(ODD_CAPTURES):
-        found += [([task], odd + capture) for task in ("show", "check", "json", "log")]
+        found += [([task], odd + capture) for task in ("show", "check", "json", "log", "stats")]
         found += [([task, "--late"], odd + capture) for task in ("json", "log")]
     found += [(["build"], odd + line) for line in lines_of(ODD_LINES)]
     for requests in lines_of(ODD_REQUESTS):
         found.append((["run"], odd + requests.replace(b"; ", b"\n")))
     unlike = profiles.UNLIKE_TEXT + b"%%\n"
     for capture in lines_of(UNLIKE_CAPTURES):
-        found += [([task], unlike + capture) for task in ("show", "check", "json", "log")]
+        found += [([task], unlike + capture) for task in ("show", "check", "json", "log", "stats")]
         for task in ("json", "log"):
             found.append(([task, "--late"], unlike + capture))
             found.append(([task, "--late", "--fixed-vout-mode"], unlike + capture))
@@ -419,7 +444,7 @@ def rows_behind_profiles():
         for requests in lines_of(lists):
             found.append((["run"], front + requests.replace(b"; ", b"\n")))
     capture = example("profiles/two_rails.txt")
-    found += [([task], rails + capture) for task in ("show", "check", "json", "log")]
+    found += [([task], rails + capture) for task in ("show", "check", "json", "log", "stats")]
     nobody = b"device = []\n%%\n"
     found.append((["show"], nobody + b"S 40 N P S 19 A b0 N P S 40 A P"))
     found.append((["build"], nobody + b"write 58 03\nrefused 58\nalert none\n"))
@@ -427,6 +452,7 @@ def rows_behind_profiles():
         found.append(([task], b"ignore = []\n" + nobody + b"S 40 N P S 40 A P"))
     board = profiles.BOARD_TEXT + b"%%\n" + example("sessions/power_up.txt")
     found += [(["show"], board), (["json"], board), (["json", "--late"], board)]
+    found += [(["stats"], board), (["stats", "--json", "--late"], board)]
     found += [(["log"], board), (["log", "--late"], board)]
     found.append((["run"], profiles.BOARD_TEXT + b"%%\n" + example("requests/bring_up.txt")))
     found.append((["show"], profiles.LTC3880_TEXT + b"%%\n" + example("profiles/ltc3880.txt")))

@@ -12,7 +12,9 @@ use Rattle.std.proofs.lemmas.Bool.Decides.{nat_tests}
 use Rattle.hex.specs.Hex.{decode_pairs, decode_sized, digit_or_error, hex_digit_value, ◌>>=◌}
 use Rattle.hex.specs.declared.error.FromHexError.{FromHexError}
 use Rattle.clap.specs.Words.{Text}
-use Rattle.pmb_args.specs.Facts.{SpellDevices, SpellsAddress, each_once}
+use Rattle.std.specs.Prelude.{nat_eq}
+use Rattle.pmb_args.specs.Facts.{SpellDevices, SpellsAddress}
+use Rattle.pmb_args.specs.Once.{each_once}
 use Rattle.pmb_args.proofs.EachOnce.{Below, each_once_more, has, once_few}
 
 -- ---- two digits
@@ -129,7 +131,8 @@ same_addresses (word ∷ words) (x ∷ xs) (y ∷ ys) left right =
 -- they name the same devices
 pub one_list_of_devices : (words : List Text) (a b : List ℕ) → SpellDevices words a → SpellDevices words b → a ≡ b
 one_list_of_devices words a b left right = left.once
-    ∙ ap each_once (same_addresses words left.addresses right.addresses left.spell right.spell) ∙ sym right.once
+    ∙ ap (each_once nat_eq) (same_addresses words left.addresses right.addresses left.spell right.spell)
+    ∙ sym right.once
 
 one_more : (words : List Text) (xs : List ℕ) (word : Text) (a : ℕ) → AllZip SpellsAddress words xs
     → SpellsAddress word a → AllZip SpellsAddress (words ++ word ∷ []) (xs ++ a ∷ [])
@@ -147,21 +150,22 @@ below (w ∷ words) (x ∷ xs) spell = (spell.0.seven_bits, below words xs spell
 module _ (words : List Text) (devices : List ℕ) (so_far : SpellDevices words devices) (word : Text) (a : ℕ)
     (spells : SpellsAddress word a) where
   -- one more word
-  pub one_more_word : SpellDevices (words ++ word ∷ []) (cond (has a devices) devices (devices ++ a ∷ []))
+  pub one_more_word : SpellDevices (words ++ word ∷ []) (cond (has nat_eq a devices) devices (devices ++ a ∷ []))
   one_more_word = record {
     addresses = so_far.addresses ++ a ∷ [];
     spell = one_more words so_far.addresses word a so_far.spell spells;
-    once = ap (λ ds. cond (has a ds) ds (ds ++ a ∷ [])) so_far.once ∙ sym (each_once_more so_far.addresses a);
+    once = ap (λ ds. cond (has nat_eq a ds) ds (ds ++ a ∷ [])) so_far.once
+        ∙ sym (each_once_more nat_eq (λ (n : ℕ). n) (λ x y. refl) so_far.addresses a);
   }
 
-  pub named_before : has a devices ≡ true → SpellDevices (words ++ word ∷ []) devices
+  pub named_before : has nat_eq a devices ≡ true → SpellDevices (words ++ word ∷ []) devices
   named_before is = subst (λ h. SpellDevices (words ++ word ∷ []) (cond h devices (devices ++ a ∷ []))) is one_more_word
 
-  pub named_first : has a devices ≡ false → SpellDevices (words ++ word ∷ []) (devices ++ a ∷ [])
+  pub named_first : has nat_eq a devices ≡ false → SpellDevices (words ++ word ∷ []) (devices ++ a ∷ [])
   named_first is = subst (λ h. SpellDevices (words ++ word ∷ []) (cond h devices (devices ++ a ∷ []))) is one_more_word
 
   -- there is room for it
-  pub room : has a devices ≡ false → length (devices ++ a ∷ []) ≤ 0x80
+  pub room : has nat_eq a devices ≡ false → length (devices ++ a ∷ []) ≤ 0x80
   room is =
       let all = named_first is in
       subst (λ ds. length ds ≤ 0x80) (sym all.once)
@@ -187,9 +191,9 @@ abbrev texts : List (Bor Text) → List Text
 texts = map (λ (word : Bor Text). word.now)
 
 -- whether an address was seen before, as std tells it
-pub told_of : (test known : Bool) (a : ℕ) (seen devices : List ℕ) → test ≡ has a seen → seen ≡ devices → test ≡ known
-    → has a devices ≡ known
-told_of test known a seen devices tells is told = ap (has a) (sym is) ∙ sym tells ∙ told
+pub told_of : (test known : Bool) (a : ℕ) (seen devices : List ℕ) → test ≡ has nat_eq a seen → seen ≡ devices
+    → test ≡ known → has nat_eq a devices ≡ known
+told_of test known a seen devices tells is told = ap (has nat_eq a) (sym is) ∙ sym tells ∙ told
 
 module _ (refs : List (Bor Text)) (i : ℕ) (d : Bor Text) (inside : i < length refs) where
   module _ (devices : List ℕ) (a : ℕ) (so_far : SpellDevices (texts (take i refs)) devices)
@@ -197,15 +201,15 @@ module _ (refs : List (Bor Text)) (i : ℕ) (d : Bor Text) (inside : i < length 
     more : texts (take (i + 1) refs) ≡ texts (take i refs) ++ (get_or refs i d).now ∷ []
     more = map_more (λ (word : Bor Text). word.now) refs i d inside
 
-    pub seen_at : has a devices ≡ true → SpellDevices (texts (take (i + 1) refs)) devices
+    pub seen_at : has nat_eq a devices ≡ true → SpellDevices (texts (take (i + 1) refs)) devices
     seen_at is = subst (λ ws. SpellDevices ws devices) (sym more)
         (named_before (texts (take i refs)) devices so_far (get_or refs i d).now a spells is)
 
-    pub new_at : has a devices ≡ false → SpellDevices (texts (take (i + 1) refs)) (devices ++ a ∷ [])
+    pub new_at : has nat_eq a devices ≡ false → SpellDevices (texts (take (i + 1) refs)) (devices ++ a ∷ [])
     new_at is = subst (λ ws. SpellDevices ws (devices ++ a ∷ [])) (sym more)
         (named_first (texts (take i refs)) devices so_far (get_or refs i d).now a spells is)
 
-    pub room_at : has a devices ≡ false → length devices < 0x80
+    pub room_at : has nat_eq a devices ≡ false → length devices < 0x80
     room_at is = omega (
       arith,
       length-append devices (a ∷ []),

@@ -14,9 +14,10 @@ use Rattle.clap.specs.Walk.{Held, Step, Walk, after_step, arg_by_index, finished
 use Rattle.clap.specs.Walk.{to_positional, value, walk, walk_from, walked, word_met}
 use Rattle.clap.specs.Words.{Kinds, Row, Rule, Shape, Text, subcommand_of}
 use Rattle.clap.proofs.OnLiterals.{clap_on_literals}
-use Rattle.pmb_args.specs.Asked.{AskFor, Convert, NeedsNoFlag, UnderProfile, Wanted, Show, Check, Json, Log, Build, Run}
-use Rattle.pmb_args.specs.Asked.{Profile, converter, format_in, name_of, wanted_by}
-use Rattle.pmb_args.specs.Facts.{FactsCommand, FactsWanted, SpellDevices, json, log, at_first, command_name}
+use Rattle.pmb_args.specs.Asked.{AskFor, Convert, NeedsNoFlag, UnderProfile, Wanted, Show, Check, Json, Log, Stats}
+use Rattle.pmb_args.specs.Asked.{Build, Run, Profile, converter, format_in, name_of, wanted_by}
+use Rattle.pmb_args.specs.Facts.{FactsCommand, FactsWanted, SpellDevices, json, log, stats, at_first, command_name}
+use Rattle.pmb_args.specs.Stats.{StatsWanted}
 use Rattle.pmb_args.specs.declared.direction.Direction.{Direction}
 use Rattle.pmb_args.specs.declared.direction.Direction.TheVariants.{Encode, Decode}
 use Rattle.pmb_args.specs.declared.profile_place.ProfilePlace.TheVariants.{Sample, Front}
@@ -168,7 +169,7 @@ asks_to_convert name format direction no_hyphen =
 pub no_device : SpellDevices [] []
 no_device = record { addresses = []; spell = tt; once = refl }
 
--- `json` and `log`
+-- `json`, `log` and `stats`
 facts_sampled : (name : Text) (command : FactsCommand)
     → AskFor (name ∷ command_name command ∷ codes "--sample" ∷ [])
     (UnderProfile Sample (wanted_by command (at_first command)))
@@ -181,6 +182,19 @@ facts_sampled name log = record {
   no_fault = refl;
   asks = (_, refl, refl, record { start = refl; after_bad_token = refl; digits = refl; devices = no_device });
 }
+facts_sampled name stats = record {
+  no_fault = refl;
+  asks = (
+    _,
+    refl,
+    refl,
+    record {
+      form = refl;
+      facts = record { start = refl; after_bad_token = refl; digits = refl; devices = no_device };
+      fail_on = refl;
+    },
+  );
+}
 
 facts_unsampled : (name : Text) (command : FactsCommand) → AskFor (name ∷ command_name command ∷ [])
     (UnderProfile Front (wanted_by command (at_first command)))
@@ -192,6 +206,19 @@ facts_unsampled name json = record {
 facts_unsampled name log = record {
   no_fault = refl;
   asks = (_, refl, refl, record { start = refl; after_bad_token = refl; digits = refl; devices = no_device });
+}
+facts_unsampled name stats = record {
+  no_fault = refl;
+  asks = (
+    _,
+    refl,
+    refl,
+    record {
+      form = refl;
+      facts = record { start = refl; after_bad_token = refl; digits = refl; devices = no_device };
+      fail_on = refl;
+    },
+  );
 }
 
 pub asks_sampled : (name : Text) (wanted : Wanted) → NeedsNoFlag wanted
@@ -206,6 +233,9 @@ asks_sampled name (Json choice) plain =
 asks_sampled name (Log choice) plain =
     subst (λ (l : FactsWanted). AskFor (name ∷ codes "log" ∷ codes "--sample" ∷ []) (UnderProfile Sample (Log l)))
     (sym plain) (facts_sampled name log)
+asks_sampled name (Stats choice) plain =
+    subst (λ (s : StatsWanted). AskFor (name ∷ codes "stats" ∷ codes "--sample" ∷ []) (UnderProfile Sample (Stats s)))
+    (sym plain) (facts_sampled name stats)
 asks_sampled name Build plain = record { no_fault = refl; asks = (_, refl, refl, tt) }
 asks_sampled name Run plain = record { no_fault = refl; asks = (_, refl, refl, tt) }
 asks_sampled name Profile plain = record { no_fault = refl; asks = (_, refl, refl, tt) }
@@ -222,6 +252,9 @@ asks_unsampled name (Json choice) plain =
 asks_unsampled name (Log choice) plain =
     subst (λ (l : FactsWanted). AskFor (name ∷ codes "log" ∷ []) (UnderProfile Front (Log l))) (sym plain)
     (facts_unsampled name log)
+asks_unsampled name (Stats choice) plain =
+    subst (λ (s : StatsWanted). AskFor (name ∷ codes "stats" ∷ []) (UnderProfile Front (Stats s))) (sym plain)
+    (facts_unsampled name stats)
 asks_unsampled name Build plain = record { no_fault = refl; asks = (_, refl, refl, tt) }
 asks_unsampled name Run plain = record { no_fault = refl; asks = (_, refl, refl, tt) }
 asks_unsampled name Profile plain = record { no_fault = refl; asks = (_, refl, refl, tt) }

@@ -1,8 +1,9 @@
--- The matches of `json` or `log` choose one thing, or have a fault and choose nothing: for `work_of`
--- and the law `one_asking`. Each part of the choice is known from the matches.
+-- The flags that `json`, `log` and `stats` have choose one thing, or have a fault and choose nothing: for
+-- `read_facts`, `work_of` and the law `one_asking`. Each part of the choice is known from the matches.
 use Rattle.std.proofs.Common.{◌≡◌, ℕ, Option, Some, None, List, sym, ap, ◌∙◌}
 use Rattle.clap.specs.Words.{Row, Text}
-use Rattle.pmb_args.specs.Facts.{ChoosesDigits, FactsAsk, FactsWanted, HasFault, SpellsNone, devices_in, digits_in}
+use Rattle.pmb_args.specs.Facts.{ChoosesDigits, FactsAsk, FactsWanted, SpellsNone, devices_in, digits_in}
+use Rattle.pmb_args.specs.Faults.{AreWrong}
 use Rattle.pmb_args.specs.declared.facts_fault.FactsFault.{FactsFault}
 use Rattle.pmb_args.specs.declared.facts_fault.FactsFault.TheVariants.{NeedsLate, BadDigits, BadAddress}
 use Rattle.pmb_scan.specs.declared.after_bad_token.AfterBadToken.{AfterBadToken}
@@ -18,7 +19,7 @@ one_number default None a b left right = left ∙ sym right
 one_number default (Some N) a b left right = left.value ∙ sym right.value
 
 -- an N that spells nothing chooses nothing
-none_chosen : (default : ℕ) (N : Option Text) (n : ℕ) → SpellsNone N → ¬ (ChoosesDigits default N n)
+pub none_chosen : (default : ℕ) (N : Option Text) (n : ℕ) → SpellsNone N → ¬ (ChoosesDigits default N n)
 none_chosen default None n none chosen = none
 none_chosen default (Some N) n none chosen = none n chosen
 
@@ -35,11 +36,11 @@ one_wanted default rows a b left right =
     ∙ ap (λ ds. made b.start b.after_bad_token b.digits ds)
     (one_list_of_devices (devices_in rows) a.devices b.devices left.devices right.devices)
 
--- Where there is a fault, nothing is.
-pub fault_asks_nothing : (default : ℕ) (rows : List Row) (fault : FactsFault) → HasFault rows fault
+-- Where something is wrong, nothing is.
+pub wrong_asks_nothing : (default : ℕ) (rows : List Row) (fault : FactsFault) → AreWrong rows fault
     → (wanted : FactsWanted) → ¬ (FactsAsk default rows wanted)
-fault_asks_nothing default rows NeedsLate none wanted asks =
+wrong_asks_nothing default rows NeedsLate none wanted asks =
     let clash : Some wanted.start ≡ None = sym asks.start ∙ none in cc
-fault_asks_nothing default rows BadDigits none wanted asks =
+wrong_asks_nothing default rows BadDigits none wanted asks =
     none_chosen default (digits_in rows) wanted.digits none asks.digits
-fault_asks_nothing default rows BadAddress none wanted asks = none wanted.devices asks.devices
+wrong_asks_nothing default rows BadAddress none wanted asks = none wanted.devices asks.devices

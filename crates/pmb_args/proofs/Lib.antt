@@ -6,6 +6,12 @@ pub mod CommandLemmas
 pub mod EachOnce
 pub mod FactWords
 pub mod FactsOnce
+pub mod FailWords
+pub mod FirstFaults
+pub mod GivenWords
 pub mod ImportOnce
 pub mod ImportWords
+pub mod Names
+pub mod StatsOnce
+pub mod StatsWords
 mod WordsExamples

@@ -14,17 +14,19 @@ use Rattle.pmb_args.specs.declared.subcommand.Subcommand.TheVariants as works
 use Rattle.pmb_recorder.specs.Recorded.{Recorded, recorded_of}
 use Rattle.pmb_args.specs.Flags.{has_flag}
 use Rattle.pmb_args.specs.Import.{ImportAsks}
-use Rattle.pmb_args.specs.Facts.{FactsAsk, FactsCommand, FactsWanted, json, log, at_first, default_digits}
+use Rattle.pmb_args.specs.Facts.{FactsAsk, FactsCommand, FactsWanted, json, log, stats, at_first, default_digits}
 use Rattle.pmb_args.specs.Facts.{facts_wanted_of}
+use Rattle.pmb_args.specs.Stats.{StatsAsk, StatsWanted, stats_wanted_of, table_of}
 use Rattle.pmb_args.specs.Words.{faults_of, pmb_app}
 
--- What is wanted under a profile: a capture is shown, checked, or written in JSON or as lines for
--- people, packets are built from lines, requests are run, or the bus is described.
+-- What is wanted under a profile: a capture is shown, checked, written in JSON or as lines for people, or summed up,
+-- packets are built from lines, requests are run, or the bus is described.
 pub data Wanted : Type 0 where
   Show : Wanted
   Check : Wanted
   Json : (choice : FactsWanted) → Wanted
   Log : (choice : FactsWanted) → Wanted
+  Stats : (choice : StatsWanted) → Wanted
   Build : Wanted
   Run : Wanted
   Profile : Wanted
@@ -35,6 +37,7 @@ wanted_of works.Show = Show
 wanted_of works.Check = Check
 wanted_of (works.Json choice) = Json (facts_wanted_of choice)
 wanted_of (works.Log choice) = Log (facts_wanted_of choice)
+wanted_of (works.Stats choice) = Stats (stats_wanted_of choice)
 wanted_of works.Build = Build
 wanted_of works.Run = Run
 wanted_of works.Profile = Profile
@@ -60,6 +63,7 @@ name_of Show = codes "show"
 name_of Check = codes "check"
 name_of (Json choice) = codes "json"
 name_of (Log choice) = codes "log"
+name_of (Stats choice) = codes "stats"
 name_of Build = codes "build"
 name_of Run = codes "run"
 name_of Profile = codes "profile"
@@ -69,10 +73,11 @@ abbrev pub converter : Direction → Text
 converter Encode = codes "encode"
 converter Decode = codes "decode"
 
--- what `json` or `log` asks for, where its flags choose this
+-- what `json`, `log` or `stats` asks for, where the flags that all three have choose this, and `stats` has no other
 abbrev pub wanted_by : FactsCommand → FactsWanted → Wanted
 wanted_by json choice = Json choice
 wanted_by log choice = Log choice
+wanted_by stats choice = Stats (table_of choice)
 
 -- the profile is the sample with `--sample`
 abbrev pub place_in : List Row → ProfilePlace
@@ -82,12 +87,13 @@ place_in rows = if has_flag (codes "sample") rows then Sample else Front
 abbrev pub format_in : List Row → Text
 format_in rows = unwrap_or (first_of (codes "FORMAT") rows) []
 
--- the flags of `json` and `log` say more of what is wanted, and nothing of any other
+-- the flags of `json`, `log` and `stats` say more of what is wanted, and nothing of any other
 abbrev pub FlagsAsk : List Row → Wanted → Type 0
 FlagsAsk rows Show = Unit {0}
 FlagsAsk rows Check = Unit {0}
 FlagsAsk rows (Json choice) = FactsAsk (default_digits json) rows choice
 FlagsAsk rows (Log choice) = FactsAsk (default_digits log) rows choice
+FlagsAsk rows (Stats choice) = StatsAsk rows choice
 FlagsAsk rows Build = Unit {0}
 FlagsAsk rows Run = Unit {0}
 FlagsAsk rows Profile = Unit {0}
@@ -98,6 +104,7 @@ NeedsNoFlag Show = Unit {0}
 NeedsNoFlag Check = Unit {0}
 NeedsNoFlag (Json choice) = choice ≡ at_first json
 NeedsNoFlag (Log choice) = choice ≡ at_first log
+NeedsNoFlag (Stats choice) = choice ≡ table_of (at_first stats)
 NeedsNoFlag Build = Unit {0}
 NeedsNoFlag Run = Unit {0}
 NeedsNoFlag Profile = Unit {0}

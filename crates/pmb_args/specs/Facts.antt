@@ -1,33 +1,36 @@
--- What the words of `json` and of `log` ask for: their flags, N of `--digits` and HH of each `--device`.
-use Rattle.std.specs.Prelude.{◌≡◌, ◌≤◌, ◌<◌, ◌+◌, ◌*◌, ◌==◌, ℕ, Bool, true, false, not, Option, Some, None, List, []}
-use Rattle.std.specs.Prelude.{◌∷◌, codes, unwrap_or, filter, if◌then◌else◌}
+-- What the flags say that `json`, `log` and `stats` have: N of `--digits`, HH of each `--device`, and where the
+-- capture begins.
+use Rattle.std.specs.Prelude.{◌≡◌, ◌≤◌, ◌<◌, ◌+◌, ◌*◌, ℕ, Bool, true, false, nat_eq, Option, Some, None, List, []}
+use Rattle.std.specs.Prelude.{◌∷◌, codes, unwrap_or, if◌then◌else◌}
 use Rattle.std.specs.List.{AllZip}
 use Rattle.std.specs.Str.Parse.{IsNumeral, digits_value}
 use Rattle.clap.specs.Words.{Row, Text, all_of, first_of}
 use Rattle.hex.specs.Hex.{hex_digit_value}
-use Rattle.pmb_args.specs.declared.facts_fault.FactsFault.{FactsFault}
-use Rattle.pmb_args.specs.declared.facts_fault.FactsFault.TheVariants.{NeedsLate, BadDigits, BadAddress}
 use Rattle.pmb_scan.specs.declared.after_bad_token.AfterBadToken.{AfterBadToken}
 use Rattle.pmb_scan.specs.declared.after_bad_token.AfterBadToken.TheVariants.{End, Continue}
 use Rattle.pmb_args.specs.declared.fact_arguments.FactArguments.{FactArguments}
 use Rattle.pmb_unknown_start.specs.declared.start.Start.{Start}
 use Rattle.pmb_unknown_start.specs.declared.start.Start.TheVariants.{AllKnown, LateFixedMode, Late}
 use Rattle.pmb_args.specs.Flags.{has_flag}
+use Rattle.pmb_args.specs.Once.{each_once}
 
--- The subcommands that write what a capture says.
+-- The subcommands that have these flags.
 pub data FactsCommand : Type 0 where
   json : FactsCommand
   log : FactsCommand
+  stats : FactsCommand
 
 -- their names
 abbrev pub command_name : FactsCommand → Text
 command_name json = codes "json"
 command_name log = codes "log"
+command_name stats = codes "stats"
 
--- the most digits after a point, where there is no N
+-- the most digits after a point, where there is no N; of `stats` in its table
 abbrev pub default_digits : FactsCommand → ℕ
 default_digits json = 6
 default_digits log = 4
+default_digits stats = 4
 
 -- What is wanted: what is known of PAGE and VOUT_MODE at first, what is done after a word that is
 -- no token, the most digits after a point, and the devices, all where there is none.
@@ -85,16 +88,11 @@ pub record SpellsAddress (word : Text) (address : ℕ) : Type 0 where
   pub value : address ≡ high_value * 16 + low_value
   pub seven_bits : address < 0x80
 
--- numbers, each of them once, in the order in which they come first
-abbrev pub each_once : List ℕ → List ℕ
-each_once [] = []
-each_once (x ∷ xs) = x ∷ filter (λ y. not (y == x)) (each_once xs)
-
 -- words that spell addresses, and each of these once
 pub record SpellDevices (words : List Text) (devices : List ℕ) : Type 0 where
   pub addresses : List ℕ
   pub spell : AllZip SpellsAddress words addresses
-  pub once : devices ≡ each_once addresses
+  pub once : devices ≡ each_once nat_eq addresses
 
 -- ---- what is among the matches
 
@@ -126,9 +124,3 @@ pub record FactsAsk (default : ℕ) (rows : List Row) (wanted : FactsWanted) : T
   pub after_bad_token : wanted.after_bad_token ≡ after_bad_token_in rows
   pub digits : ChoosesDigits default (digits_in rows) wanted.digits
   pub devices : SpellDevices (devices_in rows) wanted.devices
-
--- what is wrong with matches that ask for nothing
-abbrev pub HasFault : List Row → FactsFault → Type 0
-HasFault rows NeedsLate = start_in rows ≡ None
-HasFault rows BadDigits = SpellsNone (digits_in rows)
-HasFault rows BadAddress = (devices : List ℕ) → ¬ (SpellDevices (devices_in rows) devices)

@@ -1,7 +1,12 @@
 pub mod Flags
 pub mod Words
+pub mod Once
 pub mod Facts
+pub mod Fails
+pub mod Stats
+pub mod Faults
 pub mod Import
 pub mod Asked
 pub mod Texts
 pub mod ExitStatus
+pub mod machine

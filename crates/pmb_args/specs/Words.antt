@@ -1,5 +1,6 @@
 -- The words that `pmb` takes, after its own name: `import SOURCE` with its flags, `show`, `check`, `build`, `run` and
--- `profile`, each with or without `--sample`, `json` and `log` with their flags, `encode FORMAT` and `decode FORMAT`.
+-- `profile`, each with or without `--sample`, `json`, `log` and `stats` with their flags, `encode FORMAT` and
+-- `decode FORMAT`.
 use Rattle.std.specs.Prelude.{◌≡◌, ◌≢◌, ◌⊎◌, ◌++◌, true, Some, List, [], ◌∷◌, codes}
 use Rattle.clap.specs.Words.{App, IsAmong, Kinds, Rule, Text, fault_of, new_app, new_rule, with_rule, with_subcommand}
 use Rattle.clap.specs.declared.builder.action.ArgAction.{ArgAction}
@@ -23,12 +24,22 @@ sampled_app name = with_rule (new_app name) sample
 abbrev pub valued : Text → ArgAction → Rule
 valued name uses = record (new_rule name) { long = Some name; action = Some uses; value_names = 1 }
 
+-- a subcommand with the flags that `json`, `log` and `stats` have
+abbrev pub with_fact_flags : App → App
+with_fact_flags app =
+    with_rule (with_rule (with_rule (with_rule (with_rule (with_rule app sample) (flag (codes "late")))
+    (flag (codes "fixed-vout-mode"))) (flag (codes "keep-going"))) (valued (codes "digits") Set))
+    (valued (codes "device") Append)
+
 -- `json` or `log` with its flags
 abbrev pub facts_app : Text → App
-facts_app name =
-    with_rule (with_rule (with_rule (with_rule (with_rule (with_rule (new_app name) sample)
-    (flag (codes "late"))) (flag (codes "fixed-vout-mode"))) (flag (codes "keep-going")))
-    (valued (codes "digits") Set)) (valued (codes "device") Append)
+facts_app name = with_fact_flags (new_app name)
+
+-- `stats` with its flags
+abbrev pub stats_app : App
+stats_app =
+    with_rule (with_fact_flags (with_rule (new_app (codes "stats")) (flag (codes "json"))))
+    (valued (codes "fail-on") Set)
 
 -- a word of this name, which has to be there
 abbrev pub required_word : Text → Rule
@@ -66,9 +77,9 @@ recording_app = with_subcommand (top_app (new_app (codes "pmb"))) import_app.top
 -- and with the subcommands that read a capture
 abbrev pub capture_app : App
 capture_app =
-    with_subcommand (with_subcommand (with_subcommand (with_subcommand recording_app
+    with_subcommand (with_subcommand (with_subcommand (with_subcommand (with_subcommand recording_app
     (sampled_app (codes "show")).top) (sampled_app (codes "check")).top) (facts_app (codes "json")).top)
-    (facts_app (codes "log")).top
+    (facts_app (codes "log")).top) stats_app.top
 
 -- and with all others
 abbrev pub pmb_app : App

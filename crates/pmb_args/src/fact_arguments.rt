@@ -1,11 +1,11 @@
-//! What the arguments of `pmb json` and `pmb log` choose.
+//! What the arguments of `pmb json` and `pmb log` choose, and most of `pmb stats`.
 
 use arrayvec::ArrayVec;
 use pmb_decimal::Digits;
 use pmb_scan::AfterBadToken;
 use pmb_unknown_start::Start;
 
-/// What the flags of `pmb json` or `pmb log` choose.
+/// What the flags choose that `pmb json`, `pmb log` and `pmb stats` have.
 #[derive(Drop)]
 pub struct FactArguments {
     /// What is known of PAGE and VOUT_MODE where the capture begins.

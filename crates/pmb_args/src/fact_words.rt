@@ -1,10 +1,11 @@
-//! The flags of `json` and `log`, and what they choose.
+//! The flags that `json`, `log` and `stats` have, and what they choose.
 //!
 //! Its rows: `tests/rows/arguments.txt`, `tests/rows/json_objects.txt`, `tests/rows/log.txt`.
 
 ghost use Rattle.std.specs.Prelude.{◌≡◌, ◌≤◌, ℕ, List, MatchOption, MatchResult, map};
 ghost use Rattle.clap.specs.Words.{Text, found_of, rows_of};
-ghost use Rattle.pmb_args.specs.Facts.{ChoosesDigits, FactsAsk, HasFault, SpellDevices, SpellsAddress, SpellsDigits, SpellsNone, after_bad_token_in, digits_in, facts_wanted_of, start_in};
+ghost use Rattle.pmb_args.specs.Facts.{ChoosesDigits, FactsAsk, SpellDevices, SpellsAddress, SpellsDigits, SpellsNone, after_bad_token_in, digits_in, facts_wanted_of, start_in};
+ghost use Rattle.pmb_args.specs.Faults.{HasFault};
 
 use crate::fact_arguments::FactArguments;
 use crate::facts_fault::FactsFault;
@@ -15,8 +16,11 @@ use pmb_decimal::Digits;
 use pmb_scan::AfterBadToken;
 use pmb_unknown_start::Start;
 
-/// What the matches of `json` or `log` choose, where without `--digits` a number has at most
-/// `default_digits` after its point.
+/// The most digits after the point of a number in objects, where there is no `--digits`.
+pub(crate) const JSON_DIGITS: u8 = 6;
+
+/// What the matches of `json`, `log` or `stats` choose by these flags, where without `--digits` a number
+/// has at most `default_digits` after its point.
 ///
 /// # Errors
 ///

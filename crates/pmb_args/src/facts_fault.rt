@@ -1,4 +1,4 @@
-//! Why the words of `json` or `log` ask for nothing.
+//! Why the flags that `json`, `log` and `stats` have ask for nothing.
 //!
 //! Its rows: `tests/rows/arguments.txt`.
 
@@ -10,7 +10,7 @@ use arrayvec::ArrayString;
 use pmb_io::Sink;
 use std::fmt::Write;
 
-/// Why the words of `json` or `log` ask for nothing.
+/// Why the flags that `json`, `log` and `stats` have ask for nothing.
 #[derive(Clone, Copy, Debug, PartialEq, Eq)]
 pub(crate) enum FactsFault {
     /// `--fixed-vout-mode` stands without `--late`.

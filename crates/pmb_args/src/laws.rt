@@ -9,9 +9,13 @@ ghost use Rattle.pmb_sigrok_line.specs.declared.rate.Rate.{Rate};
 ghost use Rattle.pmb_recorder.specs.Recorded.{OfKernel, OfSigrok};
 ghost use Rattle.pmb_recorder.specs.declared.source.Source.{Source};
 ghost use Rattle.pmb_args.specs.Import.{recorded_by, source_word};
-ghost use Rattle.pmb_args.specs.Asked.{AskFor, AskForNothing, Asking, Convert, HasBadFormat, Import, NamesNone, NeedsNoFlag, UnderProfile, Wanted, converter, name_of, wanted_by};
+ghost use Rattle.pmb_args.specs.Asked.{AskFor, AskForNothing, Asking, Convert, HasBadFormat, Import, NamesNone, NeedsNoFlag, Stats, UnderProfile, Wanted, converter, name_of, wanted_by};
 ghost use Rattle.clap.specs.declared.error.kind.ErrorKind.TheVariants.{DisplayHelp, InvalidSubcommand};
-ghost use Rattle.pmb_args.specs.Facts.{FactsCommand, SpellsAddress, SpellsDigits, at_first, command_name};
+ghost use Rattle.pmb_stats_counts.specs.declared.fail.Fail.{Fail};
+ghost use Rattle.pmb_args.specs.Facts.{FactsCommand, SpellsAddress, SpellsDigits, at_first, command_name, json, stats};
+ghost use Rattle.pmb_args.specs.Fails.{SpellsFails};
+ghost use Rattle.pmb_args.specs.Stats.{table_of};
+ghost use Rattle.pmb_args.specs.declared.stats_arguments.StatsForm.TheVariants.{Objects};
 ghost use Rattle.pmb_args.specs.Words.{AreRefused, AskToTell, IsFlag, faults_of};
 ghost use Rattle.pmb_args.specs.declared.direction.Direction.{Direction};
 ghost use Rattle.pmb_scan.specs.declared.after_bad_token.AfterBadToken.TheVariants.{Continue};
@@ -20,7 +24,7 @@ ghost use Rattle.pmb_args.specs.declared.profile_place.ProfilePlace.TheVariants.
 
 use pmb_recorder::laws::one_recorder;
 
-/// The words `pmb show`, `pmb check`, `pmb json`, `pmb log`, `pmb build`, `pmb run` and
+/// The words `pmb show`, `pmb check`, `pmb json`, `pmb log`, `pmb stats`, `pmb build`, `pmb run` and
 /// `pmb profile`, each with `--sample` or without it, `pmb encode FORMAT` and `pmb decode FORMAT` have
 /// no fault of `clap`'s and ask for just that, where FORMAT does not begin with `-`; `pmb --help` and `pmb --version` call for
 /// a text about `pmb`. Of `pmb help` and whatever words after it `clap`'s definition says that they
@@ -34,7 +38,7 @@ pub fn words_ask()
     ensures help_words { (name : Text) (words : List Text) → faults_of (name ∷ codes "help" ∷ words) ≡ DisplayHelp ∷ InvalidSubcommand ∷ [] }
 {}
 
-/// `pmb json` and `pmb log` with `--late`, `--late --fixed-vout-mode`, `--keep-going`,
+/// `pmb json`, `pmb log` and `pmb stats` with `--late`, `--late --fixed-vout-mode`, `--keep-going`,
 /// `--keep-going --sample`, `--digits N` or `--device HH` have no fault of `clap`'s and ask for just
 /// that, where N is a number from 0 to 12 and HH an address. With any other N or HH that does not
 /// begin with `-`, and with `--fixed-vout-mode` alone, they ask for nothing.
@@ -48,6 +52,15 @@ pub fn fact_words_ask()
     ensures fixed_alone { (name : Text) (command : FactsCommand) → AskForNothing (name ∷ command_name command ∷ codes "--fixed-vout-mode" ∷ []) }
     ensures bad_digits { (name : Text) (command : FactsCommand) (N : Text) → (IsFlag N → ⊥) → ((n : ℕ) → SpellsDigits N n → ⊥) → AskForNothing (name ∷ command_name command ∷ codes "--digits" ∷ N ∷ []) }
     ensures bad_device { (name : Text) (command : FactsCommand) (HH : Text) → (IsFlag HH → ⊥) → ((address : ℕ) → SpellsAddress HH address → ⊥) → AskForNothing (name ∷ command_name command ∷ codes "--device" ∷ HH ∷ []) }
+{}
+
+/// `pmb stats` with `--json` or `--fail-on WHAT` has no fault of `clap`'s and asks for just that, where
+/// WHAT is one word or more of the six, with a comma between each two. With any other WHAT that does
+/// not begin with `-` it asks for nothing.
+pub fn stats_words_ask()
+    ensures json { (name : Text) → AskFor (name ∷ codes "stats" ∷ codes "--json" ∷ []) (UnderProfile Front (Stats (record (table_of (at_first json)) { form = Objects }))) }
+    ensures fail_on { (name WHAT : Text) (fails : List Fail) → SpellsFails WHAT fails → AskFor (name ∷ codes "stats" ∷ codes "--fail-on" ∷ WHAT ∷ []) (UnderProfile Front (Stats (record (table_of (at_first stats)) { fail_on = Some fails }))) }
+    ensures bad_fail_on { (name WHAT : Text) → (IsFlag WHAT → ⊥) → ((fails : List Fail) → SpellsFails WHAT fails → ⊥) → AskForNothing (name ∷ codes "stats" ∷ codes "--fail-on" ∷ WHAT ∷ []) }
 {}
 
 /// `pmb import SOURCE` with each of the five sources, `pmb import kernel --bus NAME`,

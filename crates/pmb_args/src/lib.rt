@@ -11,16 +11,24 @@
 //! ```
 #![tactic(auto)]
 
+mod command_arguments;
+mod commands;
 mod direction;
 mod exit_status;
 mod fact_arguments;
+mod fact_commands;
 mod fact_words;
 mod facts_fault;
+mod fail_list;
+mod fail_words;
 mod flags;
 mod import_fault;
 mod import_words;
 pub mod laws;
 mod profile_place;
+mod stats_arguments;
+mod stats_fault;
+mod stats_words;
 mod subcommand;
 mod tasks;
 mod without_words;
@@ -29,7 +37,9 @@ mod words;
 pub use direction::Direction;
 pub use exit_status::{ExitStatus, ended, report, report_format, report_nothing, report_text};
 pub use fact_arguments::FactArguments;
+pub use fail_list::FailList;
 pub use profile_place::ProfilePlace;
+pub use stats_arguments::{StatsArguments, StatsForm};
 pub use subcommand::Subcommand;
 pub use tasks::{Task, parse_command};
 pub use without_words::no_words;

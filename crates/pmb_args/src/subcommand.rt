@@ -1,6 +1,7 @@
 //! What may be done under a profile.
 
 use crate::fact_arguments::FactArguments;
+use crate::stats_arguments::StatsArguments;
 
 /// What is done under a profile, mostly with what comes after it.
 #[derive(Drop)]
@@ -13,6 +14,8 @@ pub enum Subcommand {
     Json(FactArguments),
     /// What a capture says is written as lines for people.
     Log(FactArguments),
+    /// What a capture comes to is written: counts, status bits, numbers.
+    Stats(StatsArguments),
     /// Packets are built from lines.
     Build,
     /// Requests are run against simulated devices.

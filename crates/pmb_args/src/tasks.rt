@@ -11,12 +11,14 @@ ghost use Rattle.pmb_args.specs.Words.{AreRefused, AskToTell, MayBeRefused};
 
 use crate::direction::Direction;
 use crate::exit_status::{ExitStatus, report_nothing};
-use crate::fact_words::read_facts;
+use crate::fact_words::{JSON_DIGITS, read_facts};
 use crate::facts_fault::{FactsFault, report_facts};
 use crate::flags::has_flag;
 use crate::import_fault::{ImportFault, report_import};
 use crate::import_words::read_import;
 use crate::profile_place::ProfilePlace;
+use crate::stats_fault::{StatsFault, report_stats};
+use crate::stats_words::read_stats;
 use crate::subcommand::Subcommand;
 use crate::words::{parse, report_words};
 use clap::ArgMatches;
@@ -26,10 +28,7 @@ use pmb_recorder::laws::one_recorder;
 use std::alloc::Global;
 use std::convert::AsStr;
 
-/// The most digits after the point of a number, where `json` has no `--digits`.
-const JSON_DIGITS: u8 = 6;
-
-/// The same for `log`.
+/// The most digits after the point of a number, where `log` has no `--digits`.
 const LOG_DIGITS: u8 = 4;
 
 /// What is to be done.
@@ -54,6 +53,8 @@ enum NoTask {
     Json(FactsFault),
     // The words of `log` have a fault.
     Log(FactsFault),
+    // The words of `stats` have a fault.
+    Stats(StatsFault),
 }
 
 /// What the words ask for, the program's own name first. Where they ask for nothing to be done, the
@@ -62,8 +63,8 @@ enum NoTask {
 /// # Errors
 ///
 /// The exit status of what was written: `Done` for help or the version, `BadArguments` for words that are
-/// no command and for those of `import`, `json` or `log` that ask for nothing, `IoFailed` where `out`
-/// failed, and `NoMemory` where there was no memory.
+/// no command and for those of `import`, `json`, `log` or `stats` that ask for nothing, `IoFailed` where
+/// `out` failed, and `NoMemory` where there was no memory.
 pub fn parse_command<'a, S: AsStr, W: Sink, E: Sink>(
     alloc: Global,
     words: &'a [S],
@@ -94,6 +95,7 @@ pub fn parse_command<'a, S: AsStr, W: Sink, E: Sink>(
         Err(NoTask::Import(fault)) => Err(report_import(fault, err)),
         Err(NoTask::Json(fault)) => Err(report_facts("json", fault, err)),
         Err(NoTask::Log(fault)) => Err(report_facts("log", fault, err)),
+        Err(NoTask::Stats(fault)) => Err(report_stats(fault, err)),
     }
 }
 
@@ -134,7 +136,7 @@ fn direction_of(name: &str) -> Option<Direction>
     }
 }
 
-// What a subcommand asks for under a profile, by its name, and for `json` and `log` by its flags.
+// What a subcommand asks for under a profile, by its name, and for `json`, `log` and `stats` by its flags.
 fn work_of(name: &str, arguments: &ArgMatches<'_>) -> Result<Subcommand, NoTask>
     ensures { MatchResult result (λ work. NameAsks name.now (rows_of (found_of arguments.now)) (wanted_of work)) (λ _. (wanted : Wanted) → ¬ (NameAsks name.now (rows_of (found_of arguments.now)) wanted)) }
 {
@@ -151,6 +153,11 @@ fn work_of(name: &str, arguments: &ArgMatches<'_>) -> Result<Subcommand, NoTask>
         match read_facts(arguments, LOG_DIGITS) {
             Ok(choice) => Ok(Subcommand::Log(choice)),
             Err(fault) => Err(NoTask::Log(fault)),
+        }
+    } else if name == "stats" {
+        match read_stats(arguments) {
+            Ok(choice) => Ok(Subcommand::Stats(choice)),
+            Err(fault) => Err(NoTask::Stats(fault)),
         }
     } else if name == "build" {
         Ok(Subcommand::Build)

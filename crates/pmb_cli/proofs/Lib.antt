@@ -1,4 +1,5 @@
 pub mod Statuses
+mod Sums
 pub mod Codes
 pub mod UnderFront
 pub mod Formats

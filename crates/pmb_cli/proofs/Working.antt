@@ -1,7 +1,7 @@
 -- A work that may lack memory: what its outcome and its status say. For `do_work`,
 -- `run_under_front` and `run_under_sample`. Its outcome is that of a run (`Statuses`), or there
 -- was no memory before anything was read or written.
-use Rattle.std.proofs.Common.{◌≡◌, ◌∙◌, ℕ, Result, Ok, Err, List, [], inl, inr, refl, sym, ap, subst}
+use Rattle.std.proofs.Common.{◌≡◌, ◌∙◌, ℕ, true, Result, Ok, Err, List, [], inl, inr, refl, sym, ap, subst}
 use Rattle.pmb_preamble.specs.Front.{MadeFrontReads}
 use Rattle.pmb_io.specs.Runs.{AsTool, Done, Job, PartDone, Ran}
 use Rattle.pmb_io.specs.Told.{ReaderTold, WriterTold}
@@ -14,10 +14,10 @@ use Rattle.pmb_table.specs.Profile.{ProfileParts}
 use Rattle.pmb_args.specs.ExitStatus.{run_status}
 use Rattle.pmb_args.specs.declared.exit_status.ExitStatus.{ExitStatus}
 use Rattle.pmb_args.specs.declared.exit_status.ExitStatus.TheVariants.{BadArguments, IoFailed, NoMemory}
-use Rattle.pmb_args.specs.Asked.{Wanted, Run}
+use Rattle.pmb_args.specs.Asked.{Wanted}
 use Rattle.pmb_cli.specs.Often.{MadeReadsInAll}
 use Rattle.pmb_cli.specs.Statuses.{Does, StatusTells}
-use Rattle.pmb_cli.specs.Works.{working}
+use Rattle.pmb_cli.specs.Works.{takes_memory, working}
 use Rattle.pmb_cli.proofs.Often.{reads_of_front}
 use Rattle.pmb_cli.proofs.Statuses.{IsBefore, does_none, nothing_did, nothing_tells, nothing_told, run_did}
 use Rattle.pmb_cli.proofs.Statuses.{run_unrefused, status_tells}
@@ -123,16 +123,27 @@ module _ {R W : Type 0} (reader_told : R → ReaderTold) (writer_told : W → Wr
   Did w = AsTool (Ran reader_told writer_told (working w bus) first (reader, out) (reader_new, out_new))
 
   abbrev DidOrNoMemory : Wanted → Result Tally ToolFault → Type 0
-  DidOrNoMemory w = OrNoMemory ((w ≡ Run) × (reader_new ≡ reader) × (out_new ≡ out)) (Did w)
+  DidOrNoMemory w = OrNoMemory ((takes_memory w ≡ true) × (reader_new ≡ reader) × (out_new ≡ out)) (Did w)
 
   -- one that takes no memory, as the job of what it was done under
   pub did_work : (job : Job Tally) → job ≡ working wanted bus → (outcome : Result Tally ToolFault)
       → AsTool (Ran reader_told writer_told job first (reader, out) (reader_new, out_new)) outcome
       → DidOrNoMemory work outcome
   did_work job same outcome ran = subst (λ (w : Wanted). DidOrNoMemory w outcome) (sym is)
-      (work_without_memory reader_told writer_told (wanted ≡ Run) (working wanted bus) first reader reader_new out
-      out_new outcome (subst (λ (j : Job Tally). AsTool (Ran reader_told writer_told j first (reader, out)
+      (work_without_memory reader_told writer_told (takes_memory wanted ≡ true) (working wanted bus) first reader
+      reader_new out out_new outcome (subst (λ (j : Job Tally). AsTool (Ran reader_told writer_told j first (reader, out)
       (reader_new, out_new)) outcome) same ran))
+
+  -- one that may lack memory
+  pub did_with_memory : (job : Job Tally) → job ≡ working wanted bus → takes_memory wanted ≡ true
+      → (outcome : Result Tally ToolFault)
+      → OrNoMemory ((reader_new ≡ reader) × (out_new ≡ out))
+      (AsTool (Ran reader_told writer_told job first (reader, out) (reader_new, out_new))) outcome
+      → DidOrNoMemory work outcome
+  did_with_memory job same takes outcome ran = subst (λ (w : Wanted). DidOrNoMemory w outcome) (sym is)
+      (work_with_memory reader_told writer_told (takes_memory wanted ≡ true) (working wanted bus) first reader
+      reader_new out out_new takes outcome (subst (λ (j : Job Tally). OrNoMemory ((reader_new ≡ reader) × (out_new ≡ out))
+      (AsTool (Ran reader_told writer_told j first (reader, out) (reader_new, out_new))) outcome) same ran))
 
 -- ---- over a reader that has nothing, after the front of another
 

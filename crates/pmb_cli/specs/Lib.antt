@@ -4,6 +4,7 @@ pub mod Often
 pub mod ProfileFault
 pub mod Profiles
 pub mod Program
+pub mod Stats
 pub mod Statuses
 pub mod Tasks
 pub mod Works

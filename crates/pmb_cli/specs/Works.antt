@@ -1,5 +1,6 @@
--- What `pmb show`, `pmb check`, `pmb json`, `pmb log`, `pmb build`, `pmb run` and `pmb profile` write of what they read.
-use Rattle.std.specs.Prelude.{◌≡◌, ◌⊎◌, ℕ, true, List, []}
+-- What `pmb show`, `pmb check`, `pmb json`, `pmb log`, `pmb stats`, `pmb build`, `pmb run` and `pmb profile` write of
+-- what they read, and which of them take memory for it.
+use Rattle.std.specs.Prelude.{◌≡◌, ◌⊎◌, ℕ, Bool, true, false, List, []}
 use Rattle.std.specs.Io.KnownBytes.{IsAtEnd}
 use Rattle.pmb_build.specs.Lines.{building}
 use Rattle.pmb_capture.specs.Check.{checking}
@@ -14,7 +15,8 @@ use Rattle.pmb_profile_text.specs.Table.{bus_text}
 use Rattle.pmb_table.specs.Profile.{ProfileParts}
 use Rattle.pmb_cli.specs.Profiles.{PartUnderFront, UnderFront, UnderSample}
 use Rattle.pmb_cli.specs.Facts.{json_of, log_of}
-use Rattle.pmb_args.specs.Asked.{Wanted, Show, Check, Json, Log, Build, Run, Profile}
+use Rattle.pmb_cli.specs.Stats.{stats_of}
+use Rattle.pmb_args.specs.Asked.{Wanted, Show, Check, Json, Log, Stats, Build, Run, Profile}
 use Rattle.pmb_args.specs.declared.profile_place.ProfilePlace.{ProfilePlace}
 use Rattle.pmb_args.specs.declared.profile_place.ProfilePlace.TheVariants.{Sample, Front}
 
@@ -32,16 +34,28 @@ describing bus = record {
   IsOpen = λ bytes. ⊥;
 }
 
--- What each work is to write under a profile. Only `json`, `log` and `profile` look at the addresses that
+-- What each work is to write under a profile. Only `json`, `log`, `stats` and `profile` look at the addresses that
 -- it ignores.
 abbrev pub working : Wanted → ProfileParts → Job Tally
 working Show bus = showing bus.devices
 working Check bus = checking bus.devices
 working (Json wanted) bus = json_of wanted bus
 working (Log wanted) bus = log_of wanted bus
+working (Stats wanted) bus = stats_of wanted bus
 working Build bus = building bus.devices
 working Run bus = running bus.devices
 working Profile bus = describing bus
+
+-- the works that take memory, before they read or write: for the devices of a bus, and for sums
+abbrev pub takes_memory : Wanted → Bool
+takes_memory Show = false
+takes_memory Check = false
+takes_memory (Json wanted) = false
+takes_memory (Log wanted) = false
+takes_memory (Stats wanted) = true
+takes_memory Build = false
+takes_memory Run = true
+takes_memory Profile = false
 
 -- What was read but for a last piece left something open: nothing was decided of the profile, or
 -- the job wants more of what

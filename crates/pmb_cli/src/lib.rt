@@ -16,6 +16,7 @@ mod facts;
 pub mod laws;
 mod profile_fault;
 mod program;
+mod stats;
 mod tasks;
 mod works;
 

@@ -22,7 +22,7 @@ use std::io;
 /// | --- | --- |
 /// | 0 | done, or help or the version was asked for |
 /// | 1 | the capture has refusals, lines have faults, requests failed, or a recording lacks something |
-/// | 2 | the words are no command, name no format or ask `json`, `log` or `import` for what there is not, or the profile has a fault or is too long |
+/// | 2 | the words are no command, name no format or ask `json`, `log`, `stats` or `import` for what there is not, or the profile has a fault or is too long |
 /// | 3 | a read or a write failed, or there were too many reads |
 /// | 4 | there was no memory |
 ///

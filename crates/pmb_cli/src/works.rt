@@ -1,20 +1,22 @@
-//! What is done under a profile: `pmb show`, `pmb check`, `pmb json`, `pmb log`, `pmb build`,
-//! `pmb run` and `pmb profile`, under the sample profile or under the one that comes first in the input.
+//! What is done under a profile: `pmb show`, `pmb check`, `pmb json`, `pmb log`, `pmb stats`,
+//! `pmb build`, `pmb run` and `pmb profile`, under the sample profile or under the one that comes first
+//! in the input.
 //!
 //! Its rows: `tests/rows/preambles.txt`, `captures.txt`, `lines.txt`, `requests.txt`.
 
-ghost use Rattle.std.specs.Prelude.{◌≡◌};
+ghost use Rattle.std.specs.Prelude.{◌≡◌, true};
 ghost use Rattle.pmb_cli.specs.ProfileFault.{IsReported};
 ghost use Rattle.pmb_io.specs.Runs.{AsTool, Ran};
 ghost use Rattle.pmb_cli.specs.Tasks.{DidTask};
-ghost use Rattle.pmb_cli.specs.Works.{working};
+ghost use Rattle.pmb_cli.specs.Works.{takes_memory, working};
 ghost use Rattle.pmb_run.specs.Lines.{OrNoMemory};
-ghost use Rattle.pmb_args.specs.Asked.{Run, UnderProfile, wanted_of};
+ghost use Rattle.pmb_args.specs.Asked.{UnderProfile, wanted_of};
 ghost use Rattle.pmb_args.specs.declared.profile_place.ProfilePlace.TheVariants.{Front, Sample};
 
 use crate::bus::describe_bus;
 use crate::facts::{write_json, write_log};
 use crate::profile_fault::{explain_profile, report_profile};
+use crate::stats::write_stats;
 use pmb_args::{ExitStatus, Subcommand, ended, report};
 use pmb_build::build;
 use pmb_capture::{check_capture, show};
@@ -72,7 +74,8 @@ pub(crate) fn run_under_front<R: Source, W: Sink, E: Sink>(
 /// # Errors
 ///
 /// `Read` where the reader failed, `Write` where the writer did. `TooManyReads` where 2^32 reads gave
-/// bytes and the reader had not ended. `Memory` where there was none for the devices of `run`.
+/// bytes and the reader had not ended. `Memory` where there was none for the devices of `run` or the
+/// sums of `stats`.
 fn do_work<R: Source, W: Sink>(
     work: &Subcommand,
     alloc: Global,
@@ -81,8 +84,8 @@ fn do_work<R: Source, W: Sink>(
     reader: &mut R,
     out: &mut W,
 ) -> Result<Tally, ToolFault>
-    // `run` alone takes memory, before it reads or writes.
-    ensures { OrNoMemory ((wanted_of work.now ≡ Run) × (reader.new ≡ reader.old) × (out.new ≡ out.old))
+    // `run` and `stats` alone take memory, before they read or write.
+    ensures { OrNoMemory ((takes_memory (wanted_of work.now) ≡ true) × (reader.new ≡ reader.old) × (out.new ≡ out.old))
         (AsTool (Ran R.told W.told (working (wanted_of work.now) bus.now) first.now (reader.old, out.old) (reader.new, out.new))) result }
 {
     let profile = bus.profile();
@@ -91,6 +94,7 @@ fn do_work<R: Source, W: Sink>(
         Subcommand::Check => check_capture(profile, first, reader, out),
         Subcommand::Json(chosen) => write_json(chosen, bus, first, reader, out),
         Subcommand::Log(chosen) => write_log(chosen, bus, first, reader, out),
+        Subcommand::Stats(chosen) => write_stats(chosen, alloc, bus, first, reader, out),
         Subcommand::Build => build(profile, first, reader, out),
         Subcommand::Run => run(alloc, profile, first, reader, out),
         Subcommand::Profile => describe_bus(bus, first, reader, out),
@@ -113,6 +117,7 @@ fn report_fault<E: Sink>(
         | Subcommand::Check
         | Subcommand::Json(_)
         | Subcommand::Log(_)
+        | Subcommand::Stats(_)
         | Subcommand::Build
         | Subcommand::Run => { report_profile(fault, err) }
         Subcommand::Profile => explain_profile(alloc, text, fault, err),

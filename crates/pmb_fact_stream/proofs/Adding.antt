@@ -1,16 +1,16 @@
--- The lines of spans, and of an other that is under way, and what a visit adds to them: the lines of
--- one span, or the line of an address byte. For `Told` and `Wholes`. They stay the same whatever text
+-- The facts of spans, and of an other that is under way, and what a visit adds to them: the facts of
+-- one span, or that of an address byte. For `Told` and `Wholes`. They stay the same whatever text
 -- follows.
 use Rattle.std.proofs.Common.{◌≡◌, ℕ, ◌+◌, Option, None, Some, List, [], ◌∷◌, ◌++◌, length, append-nil}
 use Rattle.std.proofs.Common.{append_assoc}
-use Rattle.std.proofs.Common.{sym, ap, ◌∙◌, arith}
+use Rattle.std.proofs.Common.{sym, ap, ◌∙◌, subst, arith}
 use Rattle.pmb_bus.specs.declared.event.Event.{Event}
 use Rattle.pmb_bus.specs.Text.{EndsBetween, Spells}
 use Rattle.pmb_command.specs.Parts.{DeviceParts}
 use Rattle.pmb_io.specs.Count.{capped}
 use Rattle.pmb_json_objects.specs.Head.{Head}
 use Rattle.pmb_facts.specs.Fact.{FactData}
-use Rattle.pmb_fact_stream.specs.Lines.{fact_lines}
+use Rattle.pmb_fact_stream.specs.Keeping.{KeepsOn}
 use Rattle.pmb_facts.specs.Packets.{packet_facts}
 use Rattle.pmb_fact_stream.specs.Spans.{other_fact}
 use Rattle.pmb_fact_stream.specs.Spans.{refusal_fact}
@@ -32,7 +32,6 @@ use Rattle.pmb_fact_stream.specs.Spans.{transactions_in}
 use Rattle.pmb_fact_stream.specs.machine.Begun.{begun_legs, kept_facts}
 use Rattle.pmb_fact_stream.proofs.Fronts.{BeginsOther}
 use Rattle.pmb_fact_stream.proofs.Fronts.{open_none, open_other}
-use Rattle.pmb_fact_stream.proofs.Lines.{lines_append}
 use Rattle.pmb_fact_stream.proofs.Starts.{packet_by_kept}
 use Rattle.pmb_fact_stream.proofs.Places.{LastWordStands, stands_last}
 use Rattle.pmb_fact_stream.proofs.Spans.{facts_moved}
@@ -41,9 +40,9 @@ use Rattle.pmb_fact_stream.proofs.Spans.{facts_moved}
 abbrev pub head_as : ℕ → Place → Option (List ℕ) → Head
 head_as at place time = record { at = at; place = place; time = time }
 
--- ---- lines
+-- ---- facts
 
-module _ (choice : ChoiceData) (profile : List DeviceParts) (b : Before) where
+module _ (choice : ChoiceData) (b : Before) where
   -- of a text the facts of spans, and of what is under way
   abbrev pub spans_in : List ℕ → List TransactionData → List Span → List FactData
   spans_in bytes before spans =
@@ -53,65 +52,59 @@ module _ (choice : ChoiceData) (profile : List DeviceParts) (b : Before) where
   open_in bytes standing = open_facts choice.ignored (event_place b.read b.n bytes) (event_time b.n bytes) b.n
       standing
 
-  -- their lines, whatever follows the bytes
-  abbrev pub LinesAre : List ℕ → List Span → Standing → List ℕ → Type 0
-  LinesAre bytes spans standing text =
-      (more : List ℕ) → text ≡ fact_lines choice profile
-      (spans_in (bytes ++ more) b.ts (moved_spans b.n spans) ++ open_in (bytes ++ more) standing)
+  -- this holds of them, whatever follows the bytes
+  abbrev pub FactsAre : List ℕ → List Span → Standing → (List FactData → Type 0) → Type 0
+  FactsAre bytes spans standing Holds =
+      (more : List ℕ) → Holds (spans_in (bytes ++ more) b.ts (moved_spans b.n spans) ++ open_in (bytes ++ more)
+      standing)
 
-  pub lines_behind : (bytes others : List ℕ) (spans : List Span) (standing : Standing) (text : List ℕ)
-      → LinesAre bytes spans standing text → LinesAre (bytes ++ others) spans standing text
-  lines_behind bytes others spans standing text are more =
-      are (others ++ more)
-      ∙ ap (λ (l : List ℕ). fact_lines choice profile
-      (spans_in l b.ts (moved_spans b.n spans) ++ open_in l standing)) (sym (append_assoc bytes others more))
+  pub facts_behind : (bytes others : List ℕ) (spans : List Span) (standing : Standing) (Holds : List FactData → Type 0)
+      → FactsAre bytes spans standing Holds → FactsAre (bytes ++ others) spans standing Holds
+  facts_behind bytes others spans standing Holds are more =
+      subst (λ (l : List ℕ). Holds (spans_in l b.ts (moved_spans b.n spans) ++ open_in l standing))
+      (sym (append_assoc bytes others more)) (are (others ++ more))
 
   -- where no other begins they stay
-  pub lines_stay : (bytes : List ℕ) (spans : List Span) (standing next : Standing) (text : List ℕ)
-      → ((l : List ℕ) → open_in l next ≡ open_in l standing) → LinesAre bytes spans standing text
-      → LinesAre bytes spans next text
-  lines_stay bytes spans standing next text same are more =
-      are more ∙ ap (λ (os : List FactData). fact_lines choice profile
-      (spans_in (bytes ++ more) b.ts (moved_spans b.n spans) ++ os)) (sym (same (bytes ++ more)))
+  pub facts_stay : (bytes : List ℕ) (spans : List Span) (standing next : Standing) (Holds : List FactData → Type 0)
+      → ((l : List ℕ) → open_in l next ≡ open_in l standing) → FactsAre bytes spans standing Holds
+      → FactsAre bytes spans next Holds
+  facts_stay bytes spans standing next Holds same are more =
+      subst (λ (os : List FactData). Holds (spans_in (bytes ++ more) b.ts (moved_spans b.n spans) ++ os))
+      (sym (same (bytes ++ more))) (are more)
 
-  -- one begins, and its line is added
-  pub lines_begin : (bytes : List ℕ) (spans : List Span) (standing next : Standing) (text added : List ℕ)
-      → ((l : List ℕ) → open_in l standing ≡ [])
-      → ((more : List ℕ) → added ≡ fact_lines choice profile (open_in (bytes ++ more) next))
-      → LinesAre bytes spans standing text → LinesAre bytes spans next (text ++ added)
-  lines_begin bytes spans standing next text added none adds are more =
+  -- one begins, and its fact is added
+  pub facts_begin : (bytes : List ℕ) (spans : List Span) (standing next : Standing)
+      (Holds Then : List FactData → Type 0)
+      (added : List FactData) → ((l : List ℕ) → open_in l standing ≡ [])
+      → ((more : List ℕ) → added ≡ open_in (bytes ++ more) next) → KeepsOn Holds Then added
+      → FactsAre bytes spans standing Holds → FactsAre bytes spans next Then
+  facts_begin bytes spans standing next Holds Then added none adds on are more =
       let first = spans_in (bytes ++ more) b.ts (moved_spans b.n spans) in
-      ap (λ (t : List ℕ). t ++ added) (are more
-      ∙ ap (λ (os : List FactData). fact_lines choice profile (first ++ os)) (none (bytes ++ more))
-      ∙ ap (fact_lines choice profile) (append-nil first))
-      ∙ ap (λ (t : List ℕ). fact_lines choice profile first ++ t) (adds more)
-      ∙ sym (lines_append choice profile first (open_in (bytes ++ more) next))
+      subst Then (ap (λ (os : List FactData). first ++ os) (adds more))
+      (on first (subst Holds (ap (λ (os : List FactData). first ++ os) (none (bytes ++ more)) ∙ append-nil first)
+      (are more)))
 
-  -- With the line of what was under way these are the line or lines of a span.
-  abbrev pub AddsLines : List ℕ → List Span → Standing → Span → List ℕ → Type 0
-  AddsLines bytes spans standing span text =
-      (more : List ℕ) → fact_lines choice profile (open_in (bytes ++ more) standing) ++ text
-      ≡ fact_lines choice profile
-      (spans_in (bytes ++ more) (b.ts ++ transactions_in spans) (moved_span b.n span ∷ []))
+  -- With what was under way these are the facts of a span.
+  abbrev pub AddsFacts : List ℕ → List Span → Standing → Span → List FactData → Type 0
+  AddsFacts bytes spans standing span added =
+      (more : List ℕ) → open_in (bytes ++ more) standing ++ added
+      ≡ spans_in (bytes ++ more) (b.ts ++ transactions_in spans) (moved_span b.n span ∷ [])
 
-  pub lines_more : (bytes : List ℕ) (spans : List Span) (standing next : Standing) (span : Span)
-      (text added : List ℕ) → ((l : List ℕ) → open_in l next ≡ []) → LinesAre bytes spans standing text
-      → AddsLines bytes spans standing span added
-      → LinesAre bytes (spans ++ span ∷ []) next (text ++ added)
-  lines_more bytes spans standing next span text added none are adds more =
+  pub facts_more : (bytes : List ℕ) (spans : List Span) (standing next : Standing) (span : Span)
+      (Holds Then : List FactData → Type 0) (added : List FactData) → ((l : List ℕ) → open_in l next ≡ [])
+      → FactsAre bytes spans standing Holds → AddsFacts bytes spans standing span added → KeepsOn Holds Then added
+      → FactsAre bytes (spans ++ span ∷ []) next Then
+  facts_more bytes spans standing next span Holds Then added none are adds on more =
       let l = bytes ++ more in
       let place = event_place b.read b.n l in
       let times = event_time b.n l in
       let first = spans_in l b.ts (moved_spans b.n spans) in
-      let second = spans_in l (b.ts ++ transactions_in spans) (moved_span b.n span ∷ []) in
-      let line = fact_lines choice profile in
-      ap (λ (t : List ℕ). t ++ added) (are more ∙ lines_append choice profile first (open_in l standing))
-      ∙ append_assoc (line first) (line (open_in l standing)) added
-      ∙ ap (λ (t : List ℕ). line first ++ t) (adds more)
-      ∙ sym (lines_append choice profile first second)
-      ∙ sym (ap line (ap (λ (os : List FactData). spans_in l b.ts (moved_spans b.n (spans ++ span ∷ [])) ++ os) (none l)
-      ∙ append-nil (spans_in l b.ts (moved_spans b.n (spans ++ span ∷ [])))
+      let all = spans_in l b.ts (moved_spans b.n (spans ++ span ∷ [])) in
+      subst Then (append_assoc first (open_in l standing) added
+      ∙ ap (λ (os : List FactData). first ++ os) (adds more)
+      ∙ sym (ap (λ (os : List FactData). all ++ os) (none l) ∙ append-nil all
       ∙ facts_moved choice.ignored place times b.ts b.n spans (span ∷ [])))
+      (on (first ++ open_in l standing) (are more))
 
   -- ---- what a visit adds
 
@@ -122,16 +115,15 @@ module _ (choice : ChoiceData) (profile : List DeviceParts) (b : Before) where
   own_facts place times n facts address none =
       ap (λ (o : Option ℕ). other_or place times n o facts ++ []) none ∙ append-nil facts
 
-  -- a packet's lines, by its time and what was kept of its STARTs
+  -- a packet's facts, by its time and what was kept of its STARTs
   pub packet_adds : (accepted : List DeviceParts) (bytes : List ℕ) (spans : List Span) (time : Option (List ℕ))
       (begun : List Begun) (n : ℕ) (front : List Event) (event : Event) (t : TransactionData)
       → ((more : List ℕ) → time ≡ event_time b.n (bytes ++ more) (b.n + n))
       → ((more : List ℕ) → begun ≡ begun_legs (event_place b.read b.n (bytes ++ more)) (b.n + n) front)
       → other_address choice.ignored front ≡ None → other_address choice.ignored (front ++ event ∷ []) ≡ None
       → EndsAtFirstStop (front ++ event ∷ []) → Packet accepted t (front ++ event ∷ [])
-      → AddsLines bytes spans (Open n front) (ReadSpan n (front ++ event ∷ []) t)
-      (fact_lines choice profile
-      (kept_facts (b.ts ++ transactions_in spans) time begun t))
+      → AddsFacts bytes spans (Open n front) (ReadSpan n (front ++ event ∷ []) t)
+      (kept_facts (b.ts ++ transactions_in spans) time begun t)
   packet_adds accepted bytes spans time begun n front event t timed kept none still ends packet more =
       let l = bytes ++ more in
       let place = event_place b.read b.n l in
@@ -139,51 +131,47 @@ module _ (choice : ChoiceData) (profile : List DeviceParts) (b : Before) where
       let own = times (b.n + n) in
       let before = b.ts ++ transactions_in spans in
       let events = front ++ event ∷ [] in
-      let line = fact_lines choice profile in
-      ap (λ (os : List FactData). line os ++ line (kept_facts before time begun t))
+      ap (λ (os : List FactData). os ++ kept_facts before time begun t)
       (open_none choice.ignored place times b.n n front none)
-      ∙ ap line
-      (ap (λ (k : List Begun). kept_facts before time k t) (kept more)
+      ∙ (ap (λ (k : List Begun). kept_facts before time k t) (kept more)
       ∙ ap (λ (o : Option (List ℕ)). kept_facts before o (begun_legs place (b.n + n) front) t) (timed more)
       ∙ packet_by_kept before place own accepted (b.n + n) front event t ends packet
       ∙ sym (own_facts place times (b.n + n) (packet_facts before place own (b.n + n) events t)
       (other_address choice.ignored events) still))
 
-  -- a refusal's line
+  -- a refusal's fact
   pub refusal_adds : LastWordStands → (bytes : List ℕ) (events : List Event) (spans : List Span)
       (time : Option (List ℕ)) (n : ℕ) (front : List Event) (event : Event) (refusal : RefusalData)
       → ((more : List ℕ) → time ≡ event_time b.n (bytes ++ more) (b.n + n))
       → other_address choice.ignored front ≡ None → other_address choice.ignored (front ++ event ∷ []) ≡ None
       → EndsBetween b.read → Spells bytes (events ++ event ∷ []) → n + length front ≡ length events
-      → AddsLines bytes spans (Open n front) (RefusedSpan n front event refusal)
-      (fact_lines choice profile
+      → AddsFacts bytes spans (Open n front) (RefusedSpan n front event refusal)
       (refusal_fact (b.ts ++ transactions_in spans)
       (head_as (capped (b.n + length events)) (place_of_last_word (b.read ++ bytes)) time) front (Some event)
-      refusal.reason refusal.expected ∷ []))
+      refusal.reason refusal.expected ∷ [])
   refusal_adds law bytes events spans time n front event refusal timed none still between spells counted more =
       let l = bytes ++ more in
       let place = event_place b.read b.n l in
       let times = event_time b.n l in
       let before = b.ts ++ transactions_in spans in
       let at : b.n + length events ≡ (b.n + n) + length front = omega (arith, counted) in
-      let line = fact_lines choice profile in
       let one = λ (k : ℕ) (p : Place) (o : Option (List ℕ)).
       refusal_fact before (head_as (capped k) p o) front (Some event) refusal.reason refusal.expected ∷ [] in
       let last = place_of_last_word (b.read ++ bytes) in
-      ap (λ (os : List FactData). line os ++ line (one (b.n + length events) last time))
+      ap (λ (os : List FactData). os ++ one (b.n + length events) last time)
       (open_none choice.ignored place times b.n n front none)
-      ∙ ap line (ap (λ (p : Place). one (b.n + length events) p time)
+      ∙ (ap (λ (p : Place). one (b.n + length events) p time)
       (sym (stands_last law b.read bytes more b.n events event between spells))
       ∙ ap (λ (k : ℕ). one k (place k) time) at
       ∙ ap (one ((b.n + n) + length front) (place ((b.n + n) + length front))) (timed more)
       ∙ sym (own_facts place times (b.n + n) (one ((b.n + n) + length front) (place ((b.n + n) + length front))
       (times (b.n + n))) (other_address choice.ignored (front ++ event ∷ [])) still))
 
-  -- an other's, of which the line is out: none
+  -- an other's, of which the fact is out: none
   pub other_packet_adds : (bytes : List ℕ) (spans : List Span) (n : ℕ) (front : List Event) (event : Event)
       (t : TransactionData) (addr : ℕ) → other_address choice.ignored front ≡ Some addr
       → other_address choice.ignored (front ++ event ∷ []) ≡ Some addr
-      → AddsLines bytes spans (Open n front) (ReadSpan n (front ++ event ∷ []) t) []
+      → AddsFacts bytes spans (Open n front) (ReadSpan n (front ++ event ∷ []) t) []
   other_packet_adds bytes spans n front event t addr is still more =
       let l = bytes ++ more in
       let place = event_place b.read b.n l in
@@ -191,22 +179,22 @@ module _ (choice : ChoiceData) (profile : List DeviceParts) (b : Before) where
       let events = front ++ event ∷ [] in
       let facts = packet_facts (b.ts ++ transactions_in spans) place
       (times (b.n + n)) (b.n + n) events t in
-      append-nil (fact_lines choice profile (open_in l (Open n front)))
-      ∙ ap (fact_lines choice profile) (open_other choice.ignored place times b.n n front addr is
+      append-nil (open_in l (Open n front))
+      ∙ (open_other choice.ignored place times b.n n front addr is
       ∙ sym (ap (λ (o : Option ℕ). other_or place times (b.n + n) o facts ++ []) still))
 
   pub other_refusal_adds : (bytes : List ℕ) (spans : List Span) (n : ℕ) (front : List Event) (event : Event)
       (refusal : RefusalData) (addr : ℕ) → other_address choice.ignored front ≡ Some addr
       → other_address choice.ignored (front ++ event ∷ []) ≡ Some addr
-      → AddsLines bytes spans (Open n front) (RefusedSpan n front event refusal) []
+      → AddsFacts bytes spans (Open n front) (RefusedSpan n front event refusal) []
   other_refusal_adds bytes spans n front event refusal addr is still more =
       let l = bytes ++ more in
       let place = event_place b.read b.n l in
       let times = event_time b.n l in
       let fact = refused_span place times (b.ts ++ transactions_in spans) (b.n + n) front (Some event)
       refusal in
-      append-nil (fact_lines choice profile (open_in l (Open n front)))
-      ∙ ap (fact_lines choice profile) (open_other choice.ignored place times b.n n front addr is
+      append-nil (open_in l (Open n front))
+      ∙ (open_other choice.ignored place times b.n n front addr is
       ∙ sym (ap (λ (o : Option ℕ). other_or place times (b.n + n) o (fact ∷ []) ++ []) still))
 
   -- the fact of an address byte, which comes after START
@@ -231,20 +219,18 @@ module _ (choice : ChoiceData) (profile : List DeviceParts) (b : Before) where
       → ((more : List ℕ) → time ≡ event_time b.n (bytes ++ more) (b.n + n))
       → BeginsOther choice.ignored front event addr
       → EndsBetween b.read → Spells bytes (events ++ event ∷ []) → n + length front ≡ length events
-      → AddsLines bytes spans (Open n front) (RefusedSpan n front event refusal)
-      (fact_lines choice profile
-      (other_fact (head_as (capped (b.n + length events)) (place_of_last_word (b.read ++ bytes)) time) addr ∷ []))
+      → AddsFacts bytes spans (Open n front) (RefusedSpan n front event refusal)
+      (other_fact (head_as (capped (b.n + length events)) (place_of_last_word (b.read ++ bytes)) time) addr ∷ [])
   begun_refusal_adds law bytes events spans time n front event refusal addr timed other between spells counted more =
       let l = bytes ++ more in
       let place = event_place b.read b.n l in
       let times = event_time b.n l in
-      let line = fact_lines choice profile in
       let one = other_fact (head_as (capped (b.n + length events)) (place_of_last_word (b.read ++ bytes)) time) addr
       in
       let fact = refused_span place times (b.ts ++ transactions_in spans) (b.n + n) front (Some event)
       refusal in
       let alone : n + 1 ≡ length events = omega (arith, counted, ap (λ (es : List Event). length es) other.alone) in
-      ap (λ (os : List FactData). line os ++ line (one ∷ []))
+      ap (λ (os : List FactData). os ++ one ∷ [])
       (open_none choice.ignored place times b.n n front other.before)
-      ∙ ap line (begun_fact law bytes events time n addr event timed between spells alone more
+      ∙ (begun_fact law bytes events time n addr event timed between spells alone more
       ∙ sym (ap (λ (o : Option ℕ). other_or place times (b.n + n) o (fact ∷ []) ++ []) other.after))

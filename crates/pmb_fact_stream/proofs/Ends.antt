@@ -90,8 +90,14 @@ no_end (Open n events) = refl
 no_end (Held n refusal) = refl
 no_end (Passing n) = refl
 
+-- the facts of the end, where these spans come last
+abbrev pub facts_at_end : ChoiceData → Before → Reached → List Span → List FactData
+facts_at_end choice b reached last =
+    span_facts choice.ignored (event_place b.read b.n reached.text) (event_time b.n reached.text)
+    (b.ts ++ transactions_in reached.spans) (moved_spans b.n (filter (is_untold choice.ignored) last))
+
 -- the fact of an end inside a packet
-pub end_fact : EachWordHasPlace → (choice : ChoiceData) (profile : List DeviceParts) (b : Before) (reached : Reached)
+end_fact : EachWordHasPlace → (choice : ChoiceData) (b : Before) (reached : Reached)
     (n : ℕ) (front : List Event) (refusal : Refusal) (time : Option (List ℕ))
     → EndsBetween b.read → Spells reached.text reached.events → reached.standing ≡ Open n front
     → n + length front ≡ length reached.events → time ≡ event_time b.n reached.text (b.n + n)
@@ -99,10 +105,8 @@ pub end_fact : EachWordHasPlace → (choice : ChoiceData) (profile : List Device
     → refusal_fact (b.ts ++ transactions_in reached.spans)
     (head_as (capped (b.n + length reached.events)) (end_of_last_word (b.read ++ reached.text)) time) front None
     refusal.reason refusal.expected ∷ []
-    ≡ span_facts choice.ignored (event_place b.read b.n reached.text) (event_time b.n reached.text)
-    (b.ts ++ transactions_in reached.spans)
-    (moved_spans b.n (filter (is_untold choice.ignored) (end_spans reached.standing (Some refusal))))
-end_fact law choice profile b reached n front refusal time between spells standing counted timed none =
+    ≡ facts_at_end choice b reached (end_spans reached.standing (Some refusal))
+end_fact law choice b reached n front refusal time between spells standing counted timed none =
     let place = event_place b.read b.n reached.text in
     let times = event_time b.n reached.text in
     let before = b.ts ++ transactions_in reached.spans in
@@ -115,20 +119,42 @@ end_fact law choice profile b reached n front refusal time between spells standi
     (stands_behind_all law b.read reached.text b.n reached.events between spells))
     ∙ ap (λ (k : ℕ). one k (place k) time) at
     ∙ ap (one ((b.n + n) + length front) (place ((b.n + n) + length front))) timed
-    ∙ sym (own_facts choice profile b place times (b.n + n)
+    ∙ sym (own_facts choice b place times (b.n + n)
     (one ((b.n + n) + length front) (place ((b.n + n) + length front)) (times (b.n + n)))
     (other_address choice.ignored front) none)
     ∙ ap facts (sym (packet_untold choice.ignored n front (refusal_data refusal) none))
     ∙ ap (λ (s : Standing). facts (filter (is_untold choice.ignored) (end_spans s (Some refusal)))) (sym standing)
+
+-- .. at a place where it stands
+pub placed_end_fact : EachWordHasPlace → (choice : ChoiceData) (b : Before) (reached : Reached)
+    (n : ℕ) (front : List Event) (refusal : Refusal) (place : Place) (time : Option (List ℕ))
+    → EndsBetween b.read → Spells reached.text reached.events → reached.standing ≡ Open n front
+    → n + length front ≡ length reached.events → place ≡ end_of_last_word (b.read ++ reached.text)
+    → time ≡ event_time b.n reached.text (b.n + n) → other_address choice.ignored front ≡ None
+    → refusal_fact (b.ts ++ transactions_in reached.spans)
+    (head_as (capped (b.n + length reached.events)) place time) front None refusal.reason refusal.expected ∷ []
+    ≡ facts_at_end choice b reached (end_spans reached.standing (Some refusal))
+placed_end_fact law choice b reached n front refusal place time between spells standing counted placed timed none =
+    ap (λ (p : Place). refusal_fact (b.ts ++ transactions_in reached.spans)
+    (head_as (capped (b.n + length reached.events)) p time) front None refusal.reason refusal.expected ∷ []) placed
+    ∙ end_fact law choice b reached n front refusal time between spells standing counted timed none
+
+-- that of an other is out
+pub none_in_other : (choice : ChoiceData) (b : Before) (reached : Reached) (n : ℕ) (front : List Event)
+    (refusal : Refusal) (addr : ℕ) → reached.standing ≡ Open n front → other_address choice.ignored front ≡ Some addr
+    → facts_at_end choice b reached (end_spans reached.standing (Some refusal)) ≡ []
+none_in_other choice b reached n front refusal addr standing is =
+    let facts = λ (l : List Span). span_facts choice.ignored (event_place b.read b.n reached.text)
+    (event_time b.n reached.text) (b.ts ++ transactions_in reached.spans) (moved_spans b.n l) in
+    ap (λ (s : Standing). facts (filter (is_untold choice.ignored) (end_spans s (Some refusal)))) standing
+    ∙ ap facts (other_told choice.ignored n front (refusal_data refusal) addr is)
 
 -- ---- the text of the end
 
 -- what is put out where these spans come last
 abbrev pub text_at_end : ChoiceData → List DeviceParts → Before → Reached → List Span → List ℕ
 text_at_end choice profile b reached last =
-    fact_lines choice profile
-    (span_facts choice.ignored (event_place b.read b.n reached.text) (event_time b.n reached.text)
-    (b.ts ++ transactions_in reached.spans) (moved_spans b.n (filter (is_untold choice.ignored) last)))
+    fact_lines choice profile (facts_at_end choice b reached last)
     ++ last_lines choice profile (after_spans choice.ignored b.counts (reached.spans ++ last))
 
 -- what was counted before the end
@@ -157,10 +183,7 @@ pub none_at_end : (choice : ChoiceData) (profile : List DeviceParts) (b : Before
     ≡ text_at_end choice profile b reached (end_spans reached.standing None)
 none_at_end choice profile b reached none =
     ap (last_lines choice profile) (counts_at_no_end choice.ignored b reached none)
-    ∙ ap (λ (l : List Span). fact_lines choice profile
-    (span_facts choice.ignored (event_place b.read b.n reached.text)
-    (event_time b.n reached.text) (b.ts ++ transactions_in reached.spans)
-    (moved_spans b.n (filter (is_untold choice.ignored) l)))
+    ∙ ap (λ (l : List Span). fact_lines choice profile (facts_at_end choice b reached l)
     ++ last_lines choice profile
     (after_spans choice.ignored b.counts (reached.spans ++ end_spans reached.standing None)))
     (sym (no_end reached.standing))
@@ -219,15 +242,9 @@ pub one_at_end : EachWordHasPlace → (choice : ChoiceData) (profile : List Devi
     ++ last_lines choice profile (after_refusal (counted_so_far choice.ignored b reached) (said_device front))
     ≡ text_at_end choice profile b reached (end_spans reached.standing (Some refusal))
 one_at_end law choice profile b reached n front refusal place time between spells standing counted placed timed none =
-    let facts = λ (p : Place). refusal_fact (b.ts ++ transactions_in reached.spans)
-    (head_as (capped (b.n + length reached.events)) p time) front None refusal.reason refusal.expected ∷ [] in
     let counts = after_refusal (counted_so_far choice.ignored b reached) (said_device front) in
     ap (λ (fs : List FactData). fact_lines choice profile fs ++ last_lines choice profile counts)
-    (ap facts placed
-    ∙ end_fact law choice profile b reached n front refusal time between spells standing counted timed none)
+    (placed_end_fact law choice b reached n front refusal place time between spells standing counted placed timed none)
     ∙ ap (λ (c : CountsData). fact_lines choice profile
-    (span_facts choice.ignored (event_place b.read b.n reached.text)
-    (event_time b.n reached.text) (b.ts ++ transactions_in reached.spans)
-    (moved_spans b.n (filter (is_untold choice.ignored) (end_spans reached.standing (Some refusal)))))
-    ++ last_lines choice profile c)
+    (facts_at_end choice b reached (end_spans reached.standing (Some refusal))) ++ last_lines choice profile c)
     (counts_at_end choice.ignored b reached n front refusal standing none)

@@ -3,6 +3,7 @@ pub mod Fronts
 pub mod Others
 pub mod Lists
 pub mod Alone
+pub mod Keeping
 pub mod Putting
 pub mod Spans
 pub mod Starts

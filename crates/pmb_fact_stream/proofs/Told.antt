@@ -9,8 +9,10 @@ use Rattle.pmb_io.specs.Count.{capped}
 use Rattle.pmb_json_objects.specs.Counts.{CountsData, after_other}
 use Rattle.pmb_command.specs.Parts.{DeviceParts}
 use Rattle.pmb_facts.specs.Fact.{FactData}
-use Rattle.pmb_fact_stream.specs.Lines.{fact_lines, last_lines}
+use Rattle.pmb_fact_stream.specs.Keeping.{KeepsOn}
+use Rattle.pmb_fact_stream.specs.Lines.{last_lines}
 use Rattle.pmb_fact_stream.specs.Spans.{other_fact}
+use Rattle.pmb_keeper.specs.Setting.{Setting}
 use Rattle.pmb_places.specs.declared.places.Place.{Place}
 use Rattle.pmb_places.specs.Text.{place_of_last_word}
 use Rattle.pmb_reader.specs.Reader.{Standing, Open, Held, Passing}
@@ -18,13 +20,15 @@ use Rattle.pmb_partial_packet.specs.Standing.{SaidStandsAt}
 use Rattle.pmb_scan.specs.Reached.{MayGoOn, Reached, behind_bytes, behind_event}
 use Rattle.pmb_scan.specs.Reached.{standing_after}
 use Rattle.pmb_fact_stream.specs.declared.open_time.OpenTime.{OpenTime}
+use Rattle.pmb_fact_stream.specs.declared.kept_stream.KeptStream.{KeptStream}
 use Rattle.pmb_fact_stream.specs.declared.stream.Stream.{Stream}
 use Rattle.pmb_fact_stream.specs.Before.{Before, with_reached}
 use Rattle.pmb_fact_stream.specs.Choice.{ChoiceData}
 use Rattle.pmb_fact_stream.specs.Spans.{after_open, after_some, after_spans, event_place, event_time}
 use Rattle.pmb_fact_stream.specs.Spans.{transactions_in}
-use Rattle.pmb_fact_stream.specs.Stream.{HasToldOf, IsSame, StreamAt, StreamKnows, stream_choice, stream_profile}
-use Rattle.pmb_fact_stream.specs.Stream.{stream_last_lines, stream_lines, stream_time}
+use Rattle.pmb_fact_stream.specs.Stream.{kept_by}
+use Rattle.pmb_fact_stream.specs.Stream.{HasToldOf, IsSame, StreamAt, StreamKnows, TellsFacts, stream_choice}
+use Rattle.pmb_fact_stream.specs.Stream.{stream_last_lines, stream_profile, stream_time}
 use Rattle.pmb_fact_stream.specs.UnderWay.{under_way}
 use Rattle.pmb_fact_stream.specs.machine.Knowing.{IsCountOf, IsUnderWay, KeepsPacket, KeepsSame}
 use Rattle.pmb_fact_stream.specs.machine.Knowing.{KeepsUnderWay, KnowsTimes}
@@ -36,8 +40,9 @@ use Rattle.pmb_fact_stream.proofs.Fronts.{open_none, open_other, open_stays}
 use Rattle.pmb_fact_stream.proofs.Places.{LastWordStands}
 use Rattle.pmb_fact_stream.proofs.UnderWay.{time_in_packet, time_of_packet}
 use Rattle.pmb_fact_stream.proofs.Standing.{counts_event, keeps_as, keeps_behind, knows_as}
-use Rattle.pmb_fact_stream.proofs.Adding.{LinesAre, begun_fact, head_as, lines_begin, lines_behind, lines_stay}
+use Rattle.pmb_fact_stream.proofs.Adding.{FactsAre, begun_fact, facts_begin, facts_behind, facts_stay, head_as}
 use Rattle.pmb_fact_stream.proofs.Adding.{open_in}
+use Rattle.pmb_fact_stream.proofs.Keeping.{same_told, tells_on}
 
 -- the same choice twice
 pub same_then : (a b c : Stream) → IsSame a b → IsSame b c → IsSame a c
@@ -47,13 +52,7 @@ same_then a b c first second = record {
       ∙ first.profile;
 }
 
--- what it says of facts is the same
-pub same_lines : (start now : Stream) → IsSame start now → (facts : List FactData)
-    → stream_lines now facts ≡ stream_lines start facts
-same_lines start now same facts =
-    ap (λ (c : ChoiceData). fact_lines c (stream_profile now) facts) same.choice
-    ∙ ap (λ (p : List DeviceParts). fact_lines (stream_choice start) p facts) same.profile
-
+-- what it says of counts is the same
 pub same_last_lines : (start now : Stream) → IsSame start now → (counts : CountsData)
     → stream_last_lines now counts ≡ stream_last_lines start counts
 same_last_lines start now same counts =
@@ -115,51 +114,60 @@ time_at_end b stream reached n front stands standing some =
 
 -- ---- visits
 
-module _ (b : Before) (start old new : Stream) (reached : Reached) (text : List ℕ)
-    (told : HasToldOf b start old reached text) where
+module _ {K : Type 0} (Keeps : K → Setting → List FactData → Type 0) (b : Before) (start old : KeptStream K)
+    (new : Stream) (reached : Reached) (text : List ℕ) (told : HasToldOf Keeps b start old reached text) where
   -- what was ignored and the devices at the start
-  pub same_choice : (P : ChoiceData → Type 0) → P (stream_choice old) → P (stream_choice start)
+  pub same_choice : (P : ChoiceData → Type 0) → P (stream_choice old.stream) → P (stream_choice start.stream)
   same_choice P holds = subst P told.same.choice holds
 
-  pub told_bytes : (bytes : List ℕ) → IsSame old new → KeepsSame old new
+  -- facts that it tells come after those so far
+  pub tells_more : (keeper : K) (added : List ℕ) (facts : List FactData)
+      → TellsFacts Keeps old.stream old.keeper keeper added facts
+      → KeepsOn (TellsFacts Keeps start.stream start.keeper old.keeper text)
+      (TellsFacts Keeps start.stream start.keeper keeper (text ++ added)) facts
+  tells_more keeper added facts tells =
+      tells_on (stream_choice start.stream) (stream_profile start.stream) _ _ _ text added facts
+      (same_told Keeps start.stream old.stream told.same old.keeper keeper facts added tells)
+
+  pub told_bytes : (bytes : List ℕ) → IsSame old.stream new → KeepsSame old.stream new
       → KnowsTimes new (behind_bytes reached bytes)
-      → ((c : Before) → StreamKnows c old → StreamKnows (record c { read = c.read ++ bytes }) new)
-      → HasToldOf b start new (behind_bytes reached bytes) text
+      → ((c : Before) → StreamKnows c old.stream → StreamKnows (record c { read = c.read ++ bytes }) new)
+      → HasToldOf Keeps b start (kept_by new old.keeper) (behind_bytes reached bytes) text
   told_bytes bytes same packet times knows = record {
-    same = same_then start old new told.same same;
+    same = same_then start.stream old.stream new told.same same;
     at = record {
       between = told.at.between;
       profile = told.at.profile ∙ sym same.profile;
       knows = subst (λ (c : ChoiceData). StreamKnows (with_reached c.ignored b (behind_bytes reached bytes)) new)
           (sym same.choice)
-          (knows_as _ (with_reached (stream_choice old).ignored b (behind_bytes reached bytes)) new
+          (knows_as _ (with_reached (stream_choice old.stream).ignored b (behind_bytes reached bytes)) new
           (append_assoc b.read reached.text bytes) refl refl refl
-          (knows (with_reached (stream_choice old).ignored b reached) told.at.knows));
-      packet = keeps_as b old new (reached.text ++ bytes) reached.standing same packet
-          (keeps_behind b old reached.text bytes reached.standing told.at.packet);
+          (knows (with_reached (stream_choice old.stream).ignored b reached) told.at.knows));
+      packet = keeps_as b old.stream new (reached.text ++ bytes) reached.standing same packet
+          (keeps_behind b old.stream reached.text bytes reached.standing told.at.packet);
       counted = told.at.counted;
       times = times;
     };
     time = times.time.time;
-    lines = lines_behind (stream_choice start) (stream_profile start) b reached.text bytes reached.spans
-        reached.standing text told.lines;
+    told = facts_behind (stream_choice start.stream) b reached.text bytes reached.spans reached.standing
+        (TellsFacts Keeps start.stream start.keeper old.keeper text) told.told;
   }
 
   pub one_more_event : (event : Event) → (b.n + length reached.events) + 1 ≡ b.n + length (reached.events ++ event ∷ [])
   one_more_event event = omega (arith, length-append reached.events (event ∷ []))
 
   -- an event that begins no other
-  pub told_event : (event : Event) → IsSame old new → KnowsTimes new (behind_event reached event)
-      → other_begun_at (stream_choice old).ignored reached.standing event ≡ None
-      → StreamKnows (record (with_reached (stream_choice old).ignored b reached)
+  pub told_event : (event : Event) → IsSame old.stream new → KnowsTimes new (behind_event reached event)
+      → other_begun_at (stream_choice old.stream).ignored reached.standing event ≡ None
+      → StreamKnows (record (with_reached (stream_choice old.stream).ignored b reached)
       { n = (b.n + length reached.events) + 1 }) new
       → KeepsUnderWay b new reached.text (standing_after reached.standing event)
-      → HasToldOf b start new (behind_event reached event) text
+      → HasToldOf Keeps b start (kept_by new old.keeper) (behind_event reached event) text
   told_event event same times none knows packet =
-      let ignored = (stream_choice old).ignored in
+      let ignored = (stream_choice old.stream).ignored in
       let counts = after_spans ignored b.counts reached.spans in
       let none_here = same_choice (λ c. other_begun_at c.ignored reached.standing event ≡ None) none in record {
-        same = same_then start old new told.same same;
+        same = same_then start.stream old.stream new told.same same;
         at = record {
           between = told.at.between;
           profile = told.at.profile ∙ sym same.profile;
@@ -172,10 +180,10 @@ module _ (b : Before) (start old new : Stream) (reached : Reached) (text : List 
           times = times;
         };
         time = times.time.time;
-        lines = lines_stay (stream_choice start) (stream_profile start) b reached.text reached.spans reached.standing
-            (standing_after reached.standing event) text
-            (λ l. open_stays (stream_choice start).ignored (event_place b.read b.n l) (event_time b.n l)
-            b.n reached.standing event none_here) told.lines;
+        told = facts_stay (stream_choice start.stream) b reached.text reached.spans reached.standing
+            (standing_after reached.standing event) (TellsFacts Keeps start.stream start.keeper old.keeper text)
+            (λ l. open_stays (stream_choice start.stream).ignored (event_place b.read b.n l) (event_time b.n l)
+            b.n reached.standing event none_here) told.told;
       }
 
   -- what is under way is the packet
@@ -185,8 +193,9 @@ module _ (b : Before) (start old new : Stream) (reached : Reached) (text : List 
 
   -- what was kept of the packet under way
   pub kept_packet : (n : ℕ) (front : List Event) → reached.standing ≡ Open n front
-      → KeepsPacket b old reached.text n front
-  kept_packet n front standing = subst (λ (s : Standing). KeepsUnderWay b old reached.text s) standing told.at.packet
+      → KeepsPacket b old.stream reached.text n front
+  kept_packet n front standing = subst (λ (s : Standing). KeepsUnderWay b old.stream reached.text s) standing
+      told.at.packet
 
   pub counted_packet : (n : ℕ) (front : List Event) → reached.standing ≡ Open n front
       → n + length front ≡ length reached.events
@@ -201,37 +210,37 @@ module _ (b : Before) (start old new : Stream) (reached : Reached) (text : List 
       (open_packet n front standing) (counted_packet n front standing) has
 
   pub timed_inside : (n : ℕ) (front : List Event) → reached.standing ≡ Open n front → front ≢ []
-      → (more : List ℕ) → stream_time old ≡ event_time b.n (reached.text ++ more) (b.n + n)
-  timed_inside n front standing some = time_in_packet old.time reached.text reached.events front b.n n
+      → (more : List ℕ) → stream_time old.stream ≡ event_time b.n (reached.text ++ more) (b.n + n)
+  timed_inside n front standing some = time_in_packet old.stream.time reached.text reached.events front b.n n
       (open_packet n front standing) (counted_packet n front standing) some told.at.times.time
 
-  -- the lines so far, with the packet under way
-  pub lines_under_way : (n : ℕ) (front : List Event) → reached.standing ≡ Open n front
-      → LinesAre (stream_choice start) (stream_profile start) b reached.text reached.spans (Open n front) text
-  lines_under_way n front standing =
-      subst (λ (s : Standing). LinesAre (stream_choice start) (stream_profile start) b reached.text reached.spans s
-      text)
-      standing told.lines
+  -- the facts so far, with the packet under way
+  pub facts_under_way : (n : ℕ) (front : List Event) → reached.standing ≡ Open n front
+      → FactsAre (stream_choice start.stream) b reached.text reached.spans (Open n front)
+      (TellsFacts Keeps start.stream start.keeper old.keeper text)
+  facts_under_way n front standing =
+      subst (λ (s : Standing). FactsAre (stream_choice start.stream) b reached.text reached.spans s
+      (TellsFacts Keeps start.stream start.keeper old.keeper text)) standing told.told
 
   -- the address byte of an other
   pub told_other : LastWordStands → (n : ℕ) (front : List Event) (event : Event) (addr : ℕ)
       → reached.standing ≡ Open n front → Spells reached.text (reached.events ++ event ∷ [])
-      → IsSame old new → KnowsTimes new (behind_event reached event)
-      → BeginsOther (stream_choice old).ignored front event addr
+      → IsSame old.stream new → KnowsTimes new (behind_event reached event)
+      → BeginsOther (stream_choice old.stream).ignored front event addr
       → StreamKnows (record {
         read = b.read ++ reached.text;
         n = (b.n + length reached.events) + 1;
         ts = b.ts ++ transactions_in reached.spans;
-        counts = after_other (after_open (stream_choice old).ignored
-            (after_spans (stream_choice old).ignored b.counts reached.spans) reached.standing) addr;
+        counts = after_other (after_open (stream_choice old.stream).ignored
+            (after_spans (stream_choice old.stream).ignored b.counts reached.spans) reached.standing) addr;
       }) new
       → KeepsUnderWay b new reached.text (standing_after reached.standing event)
-      → (added : List ℕ) (place : Place) → place ≡ place_of_last_word (b.read ++ reached.text)
-      → added ≡ stream_lines old
-      (other_fact (head_as (capped (b.n + length reached.events)) place (stream_time old)) addr ∷ [])
-      → HasToldOf b start new (behind_event reached event) (text ++ added)
-  told_other law n front event addr standing spells same times other knows packet added place placed added_is =
-      let ignored = (stream_choice old).ignored in
+      → (keeper : K) (added : List ℕ) (place : Place) → place ≡ place_of_last_word (b.read ++ reached.text)
+      → TellsFacts Keeps old.stream old.keeper keeper added
+      (other_fact (head_as (capped (b.n + length reached.events)) place (stream_time old.stream)) addr ∷ [])
+      → HasToldOf Keeps b start (kept_by new keeper) (behind_event reached event) (text ++ added)
+  told_other law n front event addr standing spells same times other knows packet keeper added place placed tells =
+      let ignored = (stream_choice old.stream).ignored in
       let counts = after_spans ignored b.counts reached.spans in
       let next = Open n (front ++ event ∷ []) in
       let here = same_choice (λ c. BeginsOther c.ignored front event addr) other in
@@ -240,20 +249,18 @@ module _ (b : Before) (start old new : Stream) (reached : Reached) (text : List 
       omega (arith, counted, ap (λ (es : List Event). length es) other.alone) in
       let timed = timed_inside n front standing (λ none. cc (other.alone, none)) in
       let last = place_of_last_word (b.read ++ reached.text) in
-      let facts = λ (p : Place). other_fact (head_as (capped (b.n + length reached.events)) p (stream_time old)) addr
+      let facts = λ (p : Place). other_fact (head_as (capped (b.n + length reached.events)) p (stream_time
+      old.stream)) addr
       ∷ [] in
-      let adds : (more : List ℕ) → added ≡ stream_lines start
-      (open_in (stream_choice start) (stream_profile start) b (reached.text ++ more) next) =
-      λ more. added_is ∙ same_lines start old told.same (facts place)
-      ∙ ap (λ (p : Place). stream_lines start (facts p)) placed
-      ∙ ap (stream_lines start)
-      (begun_fact (stream_choice start) (stream_profile start) b law reached.text reached.events (stream_time old) n
+      let adds : (more : List ℕ) → facts place ≡ open_in (stream_choice start.stream) b (reached.text ++ more) next =
+      λ more. ap facts placed
+      ∙ begun_fact (stream_choice start.stream) b law reached.text reached.events (stream_time old.stream) n
       addr event timed told.at.between spells alone more
-      ∙ sym (open_other (stream_choice start).ignored (event_place b.read b.n (reached.text ++ more))
-      (event_time b.n (reached.text ++ more)) b.n n (front ++ event ∷ []) addr here.after)) in
+      ∙ sym (open_other (stream_choice start.stream).ignored (event_place b.read b.n (reached.text ++ more))
+      (event_time b.n (reached.text ++ more)) b.n n (front ++ event ∷ []) addr here.after) in
       let at_next : standing_after reached.standing event ≡ next =
       ap (λ (s : Standing). standing_after s event) standing in record {
-        same = same_then start old new told.same same;
+        same = same_then start.stream old.stream new told.same same;
         at = record {
           between = told.at.between;
           profile = told.at.profile ∙ sym same.profile;
@@ -268,9 +275,11 @@ module _ (b : Before) (start old new : Stream) (reached : Reached) (text : List 
           times = times;
         };
         time = times.time.time;
-        lines = subst (λ (s : Standing). LinesAre (stream_choice start) (stream_profile start) b reached.text
-            reached.spans s (text ++ added)) (sym at_next)
-            (lines_begin (stream_choice start) (stream_profile start) b reached.text reached.spans (Open n front) next
-            text added (λ l. open_none (stream_choice start).ignored (event_place b.read b.n l)
-            (event_time b.n l) b.n n front here.before) adds (lines_under_way n front standing));
+        told = subst (λ (s : Standing). FactsAre (stream_choice start.stream) b reached.text reached.spans s
+            (TellsFacts Keeps start.stream start.keeper keeper (text ++ added))) (sym at_next)
+            (facts_begin (stream_choice start.stream) b reached.text reached.spans (Open n front) next
+            (TellsFacts Keeps start.stream start.keeper old.keeper text)
+            (TellsFacts Keeps start.stream start.keeper keeper (text ++ added)) (facts place)
+            (λ l. open_none (stream_choice start.stream).ignored (event_place b.read b.n l) (event_time b.n l) b.n n
+            front here.before) adds (tells_more keeper added (facts place) tells) (facts_under_way n front standing));
       }

@@ -1,15 +1,16 @@
 -- What a stream stands at after a visit that ends a span: a packet, or a refusal; of a packet of its
 -- own, in an other, and at an other's address byte. For `visit_packet` and `visit_refusal`. The visit
--- adds the lines of that span, and counts it, but for an other, which was told at its address byte.
+-- adds the facts of that span, and counts it, but for an other, which was told at its address byte.
 use Rattle.std.proofs.Common.{◌≡◌, ℕ, ◌+◌, Option, None, Some, List, [], ◌∷◌, ◌++◌, length, append-nil}
 use Rattle.std.proofs.Common.{append_assoc, length-append}
 use Rattle.std.proofs.Common.{refl, sym, ap, ◌∙◌, subst, arith}
 use Rattle.pmb_bus.specs.declared.event.Event.{Event}
 use Rattle.pmb_bus.specs.declared.event.Event.TheVariants.{Stop}
 use Rattle.pmb_bus.specs.Text.{Spells}
-use Rattle.pmb_command.specs.Parts.{DeviceParts}
 use Rattle.pmb_io.specs.Count.{capped}
 use Rattle.pmb_json_objects.specs.Counts.{CountsData, after_other, after_packet, after_refusal}
+use Rattle.pmb_facts.specs.Fact.{FactData}
+use Rattle.pmb_keeper.specs.Setting.{Setting}
 use Rattle.pmb_fact_stream.specs.Spans.{other_fact}
 use Rattle.pmb_fact_stream.specs.Spans.{refusal_fact}
 use Rattle.pmb_places.specs.declared.places.Place.{Place}
@@ -22,14 +23,16 @@ use Rattle.pmb_transaction.specs.Capture.{EndsAtFirstStop}
 use Rattle.pmb_transaction.specs.Packet.{Packet}
 use Rattle.pmb_transaction.specs.Reading.{RefusalData}
 use Rattle.pmb_transaction.specs.Transaction.{TransactionData}
+use Rattle.pmb_fact_stream.specs.declared.kept_stream.KeptStream.{KeptStream}
 use Rattle.pmb_fact_stream.specs.declared.stream.Stream.{Stream}
 use Rattle.pmb_fact_stream.specs.Before.{Before, with_reached}
 use Rattle.pmb_fact_stream.specs.Choice.{ChoiceData}
 use Rattle.pmb_fact_stream.specs.Others.{other_address, span_events}
 use Rattle.pmb_fact_stream.specs.Spans.{after_either, after_open, after_some, after_spans, event_place, event_time}
 use Rattle.pmb_fact_stream.specs.Spans.{transactions_in}
-use Rattle.pmb_fact_stream.specs.Stream.{HasToldOf, IsSame, StreamKnows, stream_choice, stream_profile}
-use Rattle.pmb_fact_stream.specs.Stream.{stream_lines, stream_time}
+use Rattle.pmb_fact_stream.specs.Stream.{kept_by}
+use Rattle.pmb_fact_stream.specs.Stream.{HasToldOf, IsSame, StreamKnows, TellsFacts, stream_choice, stream_profile}
+use Rattle.pmb_fact_stream.specs.Stream.{stream_time}
 use Rattle.pmb_fact_stream.specs.machine.Begun.{kept_facts}
 use Rattle.pmb_fact_stream.specs.machine.Knowing.{IsCleared, IsCountOf}
 use Rattle.pmb_fact_stream.specs.machine.Knowing.{KeepsUnderWay, KnowsTimes}
@@ -40,42 +43,45 @@ use Rattle.pmb_fact_stream.proofs.Lists.{same_last}
 use Rattle.pmb_fact_stream.proofs.Places.{LastWordStands}
 use Rattle.pmb_fact_stream.proofs.Spans.{counts_append, transactions_append}
 use Rattle.pmb_fact_stream.proofs.Standing.{counts_passed, keeps_none, knows_as}
-use Rattle.pmb_fact_stream.proofs.Adding.{AddsLines, LinesAre, begun_refusal_adds, head_as, lines_more, open_in}
+use Rattle.pmb_fact_stream.proofs.Adding.{AddsFacts, FactsAre, begun_refusal_adds, facts_more, head_as, open_in}
 use Rattle.pmb_fact_stream.proofs.Adding.{other_packet_adds, other_refusal_adds, packet_adds, refusal_adds}
-use Rattle.pmb_fact_stream.proofs.Told.{counted_packet, kept_packet, lines_under_way, one_more_event, same_choice}
-use Rattle.pmb_fact_stream.proofs.Told.{same_lines, same_then, timed_inside}
+use Rattle.pmb_fact_stream.proofs.Keeping.{told_none}
+use Rattle.pmb_fact_stream.proofs.Told.{counted_packet, facts_under_way, kept_packet, one_more_event, same_choice}
+use Rattle.pmb_fact_stream.proofs.Told.{same_then, tells_more, timed_inside}
 
-module _ (b : Before) (start old new : Stream) (reached : Reached) (text : List ℕ)
-    (told : HasToldOf b start old reached text) where
+module _ {K : Type 0} (Keeps : K → Setting → List FactData → Type 0) (b : Before) (start old : KeptStream K)
+    (new : Stream) (reached : Reached) (text : List ℕ) (told : HasToldOf Keeps b start old reached text) where
   -- The span of a packet that was under way.
   pub told_span : (there : Reached) (n : ℕ) (front : List Event) (event : Event) (span : Span) (counts : CountsData)
-      (added : List ℕ) → reached.standing ≡ Open n front → there.profile ≡ reached.profile
+      (keeper : K) (added : List ℕ) (facts : List FactData) → reached.standing ≡ Open n front → there.profile ≡
+      reached.profile
       → there.text ≡ reached.text → there.events ≡ reached.events ++ event ∷ []
       → there.spans ≡ reached.spans ++ span ∷ []
-      → ((c : CountsData) → after_open (stream_choice old).ignored c there.standing ≡ c)
-      → ((l : List ℕ) → open_in (stream_choice start) (stream_profile start) b l there.standing ≡ [])
-      → IsSame old new → KnowsTimes new there → KeepsUnderWay b new there.text there.standing
+      → ((c : CountsData) → after_open (stream_choice old.stream).ignored c there.standing ≡ c)
+      → ((l : List ℕ) → open_in (stream_choice start.stream) b l there.standing ≡ [])
+      → IsSame old.stream new → KnowsTimes new there → KeepsUnderWay b new there.text there.standing
       → IsCountOf there.standing (length there.events)
-      → counts ≡ after_spans (stream_choice old).ignored b.counts (reached.spans ++ span ∷ [])
+      → counts ≡ after_spans (stream_choice old.stream).ignored b.counts (reached.spans ++ span ∷ [])
       → StreamKnows (record {
         read = b.read ++ reached.text;
         n = (b.n + length reached.events) + 1;
         ts = b.ts ++ transactions_in (reached.spans ++ span ∷ []);
         counts = counts;
       }) new
-      → AddsLines (stream_choice start) (stream_profile start) b reached.text reached.spans (Open n front) span added
-      → HasToldOf b start new there (text ++ added)
-  told_span there n front event span counts added standing profile same_text events spans closed none same times keeps
-      counted counts_are knows adds =
-      let ignored = (stream_choice old).ignored in
+      → AddsFacts (stream_choice start.stream) b reached.text reached.spans (Open n front) span facts
+      → TellsFacts Keeps old.stream old.keeper keeper added facts
+      → HasToldOf Keeps b start (kept_by new keeper) there (text ++ added)
+  told_span there n front event span counts keeper added facts standing profile same_text events spans closed none
+      same times keeps counted counts_are knows adds tells =
+      let ignored = (stream_choice old.stream).ignored in
       let all = after_spans ignored b.counts in record {
-        same = same_then start old new told.same same;
+        same = same_then start.stream old.stream new told.same same;
         at = record {
           between = told.at.between;
           profile = profile ∙ (told.at.profile ∙ sym same.profile);
           knows = subst (λ (c : ChoiceData). StreamKnows (with_reached c.ignored b there) new) (sym same.choice)
               (knows_as _ (with_reached ignored b there) new (ap (λ (l : List ℕ). b.read ++ l) (sym same_text))
-              (one_more_event b start old new reached text told event ∙ ap (λ (es : List Event). b.n + length es)
+              (one_more_event Keeps b start old new reached text told event ∙ ap (λ (es : List Event). b.n + length es)
               (sym events))
               (ap (λ (l : List Span). b.ts ++ transactions_in l) (sym spans))
               (counts_are ∙ ap all (sym spans) ∙ sym (closed (all there.spans))) knows);
@@ -84,24 +90,27 @@ module _ (b : Before) (start old new : Stream) (reached : Reached) (text : List 
           times = times;
         };
         time = times.time.time;
-        lines = subst (λ (l : List ℕ). LinesAre (stream_choice start) (stream_profile start) b l there.spans
-            there.standing (text ++ added)) (sym same_text)
-            (subst (λ (l : List Span). LinesAre (stream_choice start) (stream_profile start) b reached.text l
-            there.standing (text ++ added)) (sym spans)
-            (lines_more (stream_choice start) (stream_profile start) b reached.text reached.spans (Open n front)
-            there.standing span text added none (lines_under_way b start old new reached text told n front standing)
-            adds));
+        told = subst (λ (l : List ℕ). FactsAre (stream_choice start.stream) b l there.spans there.standing
+            (TellsFacts Keeps start.stream start.keeper keeper (text ++ added))) (sym same_text)
+            (subst (λ (l : List Span). FactsAre (stream_choice start.stream) b reached.text l there.standing
+            (TellsFacts Keeps start.stream start.keeper keeper (text ++ added))) (sym spans)
+            (facts_more (stream_choice start.stream) b reached.text reached.spans (Open n front) there.standing span
+            (TellsFacts Keeps start.stream start.keeper old.keeper text)
+            (TellsFacts Keeps start.stream start.keeper keeper (text ++ added)) facts none
+            (facts_under_way Keeps b start old new reached text told n front standing) adds
+            (tells_more Keeps b start old new reached text told keeper added facts tells)));
       }
 
   -- what an other's span counts was counted at its address byte
   counted_other : (n : ℕ) (front : List Event) (addr : ℕ) (span : Span) → reached.standing ≡ Open n front
-      → other_address (stream_choice old).ignored front ≡ Some addr
-      → other_address (stream_choice old).ignored (span_events span) ≡ Some addr
-      → after_open (stream_choice old).ignored (after_spans (stream_choice old).ignored b.counts reached.spans)
+      → other_address (stream_choice old.stream).ignored front ≡ Some addr
+      → other_address (stream_choice old.stream).ignored (span_events span) ≡ Some addr
+      → after_open (stream_choice old.stream).ignored
+      (after_spans (stream_choice old.stream).ignored b.counts reached.spans)
       reached.standing
-      ≡ after_spans (stream_choice old).ignored b.counts (reached.spans ++ span ∷ [])
+      ≡ after_spans (stream_choice old.stream).ignored b.counts (reached.spans ++ span ∷ [])
   counted_other n front addr span standing is still =
-      let ignored = (stream_choice old).ignored in
+      let ignored = (stream_choice old.stream).ignored in
       let counts = after_spans ignored b.counts reached.spans in
       ap (after_open ignored counts) standing ∙ ap (after_some counts) is
       ∙ sym (ap (λ (o : Option ℕ). after_either counts o span) still)
@@ -109,86 +118,85 @@ module _ (b : Before) (start old new : Stream) (reached : Reached) (text : List 
 
   -- .. and where none was counted so far
   counted_none : (n : ℕ) (front : List Event) → reached.standing ≡ Open n front
-      → other_address (stream_choice old).ignored front ≡ None
-      → after_open (stream_choice old).ignored (after_spans (stream_choice old).ignored b.counts reached.spans)
-      reached.standing ≡ after_spans (stream_choice old).ignored b.counts reached.spans
+      → other_address (stream_choice old.stream).ignored front ≡ None
+      → after_open (stream_choice old.stream).ignored
+      (after_spans (stream_choice old.stream).ignored b.counts reached.spans)
+      reached.standing ≡ after_spans (stream_choice old.stream).ignored b.counts reached.spans
   counted_none n front standing none =
-      let ignored = (stream_choice old).ignored in
+      let ignored = (stream_choice old.stream).ignored in
       let counts = after_spans ignored b.counts reached.spans in
       ap (after_open ignored counts) standing ∙ ap (after_some counts) none
 
   counted_span : (counts : CountsData) (address : Option ℕ) (span : Span)
-      → other_address (stream_choice old).ignored (span_events span) ≡ address
-      → counts ≡ after_either (after_spans (stream_choice old).ignored b.counts reached.spans) address span
-      → counts ≡ after_spans (stream_choice old).ignored b.counts (reached.spans ++ span ∷ [])
+      → other_address (stream_choice old.stream).ignored (span_events span) ≡ address
+      → counts ≡ after_either (after_spans (stream_choice old.stream).ignored b.counts reached.spans) address span
+      → counts ≡ after_spans (stream_choice old.stream).ignored b.counts (reached.spans ++ span ∷ [])
   counted_span counts address span is are =
-      let ignored = (stream_choice old).ignored in
+      let ignored = (stream_choice old.stream).ignored in
       are ∙ sym (ap (λ (o : Option ℕ). after_either (after_spans ignored b.counts reached.spans) o span) is)
       ∙ sym (counts_append ignored b.counts reached.spans (span ∷ []))
 
   pub told_packet : (n : ℕ) (front : List Event) (event : Event) (t : TransactionData) → reached.standing ≡ Open n front
       → KnowsTimes new (behind_packet reached n front event t)
       → EndsAtFirstStop (front ++ event ∷ []) → Packet reached.profile t (front ++ event ∷ [])
-      → other_address (stream_choice old).ignored front ≡ None
-      → IsSame old new → new.passing ≡ old.passing → IsCleared new
+      → other_address (stream_choice old.stream).ignored front ≡ None
+      → IsSame old.stream new → new.passing ≡ old.stream.passing → IsCleared new
       → StreamKnows (record {
         read = b.read ++ reached.text;
         n = (b.n + length reached.events) + 1;
         ts = (b.ts ++ transactions_in reached.spans) ++ t ∷ [];
-        counts = after_packet (after_open (stream_choice old).ignored
-            (after_spans (stream_choice old).ignored b.counts reached.spans) reached.standing) t;
+        counts = after_packet (after_open (stream_choice old.stream).ignored
+            (after_spans (stream_choice old.stream).ignored b.counts reached.spans) reached.standing) t;
       }) new
-      → (added : List ℕ) → added ≡ stream_lines old
-      (kept_facts (b.ts ++ transactions_in reached.spans) (stream_time old) old.begun.items t)
-      → HasToldOf b start new (behind_packet reached n front event t) (text ++ added)
-  told_packet n front event t standing times ends packet none same passing cleared knows added added_is =
-      let ignored = (stream_choice old).ignored in
-      let kept = kept_packet b start old new reached text told n front standing in
-      let counted = counted_packet b start old new reached text told n front standing in
+      → (keeper : K) (added : List ℕ) → TellsFacts Keeps old.stream old.keeper keeper added
+      (kept_facts (b.ts ++ transactions_in reached.spans) (stream_time old.stream) old.stream.begun.items t)
+      → HasToldOf Keeps b start (kept_by new keeper) (behind_packet reached n front event t) (text ++ added)
+  told_packet n front event t standing times ends packet none same passing cleared knows keeper added tells =
+      let ignored = (stream_choice old.stream).ignored in
+      let kept = kept_packet Keeps b start old new reached text told n front standing in
+      let counted = counted_packet Keeps b start old new reached text told n front standing in
       let span = ReadSpan n (front ++ event ∷ []) t in
       let still = address_at_stop ignored front event (same_last front ends.front event Stop ends.split) ∙ none in
-      let timed = timed_inside b start old new reached text told n front standing
+      let timed = timed_inside Keeps b start old new reached text told n front standing
       (some_before_stop reached.profile t front event packet) in
-      let adds = packet_adds (stream_choice start) (stream_profile start) b reached.profile reached.text reached.spans
-      (stream_time old) old.begun.items n front event t timed kept.begun
-      (same_choice b start old new reached text told (λ c. other_address c.ignored front ≡ None) none)
-      (same_choice b start old new reached text told (λ c. other_address c.ignored (front ++ event ∷ []) ≡ None)
+      let adds = packet_adds (stream_choice start.stream) b reached.profile reached.text reached.spans
+      (stream_time old.stream) old.stream.begun.items n front event t timed kept.begun
+      (same_choice Keeps b start old new reached text told (λ c. other_address c.ignored front ≡ None) none)
+      (same_choice Keeps b start old new reached text told (λ c. other_address c.ignored (front ++ event ∷ []) ≡ None)
       still) ends packet in
       let ts_are : (b.ts ++ transactions_in reached.spans) ++ t ∷ []
       ≡ b.ts ++ transactions_in (reached.spans ++ span ∷ []) =
       append_assoc b.ts (transactions_in reached.spans) (t ∷ [])
       ∙ ap (λ (ts : List TransactionData). b.ts ++ ts) (sym (transactions_append reached.spans (span ∷ []))) in
-      told_span (behind_packet reached n front event t) n front event span _ added standing refl refl refl refl
+      told_span (behind_packet reached n front event t) n front event span _ keeper added _ standing refl refl refl refl
       (λ c. refl) (λ l. refl) same times
       (keeps_none b new reached.text (n + length front + 1) (passing ∙ kept.reading) cleared)
       (omega (arith, counted, length-append reached.events (event ∷ [])))
       (counted_span _ None span still (ap (λ (c : CountsData). after_packet c t) (counted_none n front standing none)))
       (knows_as _ _ new refl refl ts_are refl knows)
-      (subst (λ (l : List ℕ). AddsLines (stream_choice start) (stream_profile start) b reached.text reached.spans
-      (Open n front) span l)
-      (sym (added_is ∙ same_lines start old told.same
-      (kept_facts (b.ts ++ transactions_in reached.spans) (stream_time old) old.begun.items t))) adds)
+      adds tells
 
   -- a packet that is an other: nothing is added
   pub told_other_packet : (n : ℕ) (front : List Event) (event : Event) (t : TransactionData) (addr : ℕ)
       → reached.standing ≡ Open n front → KnowsTimes new (behind_packet reached n front event t) → event ≡ Stop
-      → other_address (stream_choice old).ignored front ≡ Some addr
-      → IsSame old new → new.passing ≡ old.passing → IsCleared new
+      → other_address (stream_choice old.stream).ignored front ≡ Some addr
+      → IsSame old.stream new → new.passing ≡ old.stream.passing → IsCleared new
       → StreamKnows (record {
         read = b.read ++ reached.text;
         n = (b.n + length reached.events) + 1;
         ts = (b.ts ++ transactions_in reached.spans) ++ t ∷ [];
-        counts = after_open (stream_choice old).ignored
-            (after_spans (stream_choice old).ignored b.counts reached.spans) reached.standing;
+        counts = after_open (stream_choice old.stream).ignored
+            (after_spans (stream_choice old.stream).ignored b.counts reached.spans) reached.standing;
       }) new
-      → HasToldOf b start new (behind_packet reached n front event t) (text ++ [])
+      → HasToldOf Keeps b start (kept_by new old.keeper) (behind_packet reached n front event t) (text ++ [])
   told_other_packet n front event t addr standing times stop is same passing cleared knows =
-      let ignored = (stream_choice old).ignored in
-      let kept = kept_packet b start old new reached text told n front standing in
-      let counted = counted_packet b start old new reached text told n front standing in
+      let ignored = (stream_choice old.stream).ignored in
+      let kept = kept_packet Keeps b start old new reached text told n front standing in
+      let counted = counted_packet Keeps b start old new reached text told n front standing in
       let span = ReadSpan n (front ++ event ∷ []) t in
       let still = address_at_stop ignored front event stop ∙ is in
-      told_span (behind_packet reached n front event t) n front event span _ [] standing refl refl refl refl
+      told_span (behind_packet reached n front event t) n front event span _ old.keeper [] [] standing refl refl refl
+      refl
       (λ c. refl) (λ l. refl) same times
       (keeps_none b new reached.text (n + length front + 1) (passing ∙ kept.reading) cleared)
       (omega (arith, counted, length-append reached.events (event ∷ [])))
@@ -196,17 +204,18 @@ module _ (b : Before) (start old new : Stream) (reached : Reached) (text : List 
       (knows_as _ _ new refl refl (append_assoc b.ts (transactions_in reached.spans) (t ∷ [])
       ∙ ap (λ (ts : List TransactionData). b.ts ++ ts) (sym (transactions_append reached.spans (span ∷ [])))) refl
       knows)
-      (other_packet_adds (stream_choice start) (stream_profile start) b reached.text reached.spans n front event t addr
-      (same_choice b start old new reached text told (λ c. other_address c.ignored front ≡ Some addr) is)
-      (same_choice b start old new reached text told (λ c. other_address c.ignored (front ++ event ∷ []) ≡ Some addr)
-      still))
+      (other_packet_adds (stream_choice start.stream) b reached.text reached.spans n front event t addr
+      (same_choice Keeps b start old new reached text told (λ c. other_address c.ignored front ≡ Some addr) is)
+      (same_choice Keeps b start old new reached text told
+      (λ c. other_address c.ignored (front ++ event ∷ []) ≡ Some addr)
+      still)) (told_none (stream_choice old.stream) (stream_profile old.stream) _)
 
   -- a refusal, by what it adds and what is counted then
   told_refused : (n : ℕ) (front : List Event) (event : Event) (refusal : RefusalData) (counts : CountsData)
-      (added : List ℕ) → reached.standing ≡ Open n front
-      → IsSame old new → KnowsTimes new (behind_refusal reached n front event refusal)
+      (keeper : K) (added : List ℕ) (facts : List FactData) → reached.standing ≡ Open n front
+      → IsSame old.stream new → KnowsTimes new (behind_refusal reached n front event refusal)
       → KeepsUnderWay b new reached.text (behind_passed (n + length front) event)
-      → counts ≡ after_spans (stream_choice old).ignored b.counts
+      → counts ≡ after_spans (stream_choice old.stream).ignored b.counts
       (reached.spans ++ RefusedSpan n front event refusal ∷ [])
       → StreamKnows (record {
         read = b.read ++ reached.text;
@@ -214,117 +223,116 @@ module _ (b : Before) (start old new : Stream) (reached : Reached) (text : List 
         ts = b.ts ++ transactions_in reached.spans;
         counts = counts;
       }) new
-      → AddsLines (stream_choice start) (stream_profile start) b reached.text reached.spans (Open n front)
-      (RefusedSpan n front event refusal) added
-      → HasToldOf b start new (behind_refusal reached n front event refusal) (text ++ added)
-  told_refused n front event refusal counts added standing same times keeps counts_are knows adds =
+      → AddsFacts (stream_choice start.stream) b reached.text reached.spans (Open n front)
+      (RefusedSpan n front event refusal) facts
+      → TellsFacts Keeps old.stream old.keeper keeper added facts
+      → HasToldOf Keeps b start (kept_by new keeper) (behind_refusal reached n front event refusal) (text ++ added)
+  told_refused n front event refusal counts keeper added facts standing same times keeps counts_are knows adds tells =
       let span = RefusedSpan n front event refusal in
-      let counted = counted_packet b start old new reached text told n front standing in
-      told_span (behind_refusal reached n front event refusal) n front event span counts added standing refl refl refl
-      refl (λ c. count_behind (stream_choice old).ignored c (n + length front) event)
-      (λ l. open_behind_passed (stream_choice start).ignored (event_place b.read b.n l)
+      let counted = counted_packet Keeps b start old new reached text told n front standing in
+      told_span (behind_refusal reached n front event refusal) n front event span counts keeper added facts standing
+      refl refl refl refl (λ c. count_behind (stream_choice old.stream).ignored c (n + length front) event)
+      (λ l. open_behind_passed (stream_choice start.stream).ignored (event_place b.read b.n l)
       (event_time b.n l)
       b.n (n + length front) event) same times keeps
       (counts_passed (n + length front) reached.events event counted) counts_are
       (knows_as _ _ new refl refl (ap (λ (ts : List TransactionData). b.ts ++ ts)
       (sym (transactions_append reached.spans (span ∷ []) ∙ append-nil (transactions_in reached.spans)))) refl knows)
-      adds
+      adds tells
 
   pub told_refusal : LastWordStands → (n : ℕ) (front : List Event) (event : Event) (refusal : RefusalData)
       → reached.standing ≡ Open n front → Spells reached.text (reached.events ++ event ∷ [])
-      → other_address (stream_choice old).ignored front ≡ None
-      → other_address (stream_choice old).ignored (front ++ event ∷ []) ≡ None
-      → IsSame old new → KnowsTimes new (behind_refusal reached n front event refusal)
+      → other_address (stream_choice old.stream).ignored front ≡ None
+      → other_address (stream_choice old.stream).ignored (front ++ event ∷ []) ≡ None
+      → IsSame old.stream new → KnowsTimes new (behind_refusal reached n front event refusal)
       → KeepsUnderWay b new reached.text (behind_passed (n + length front) event)
       → StreamKnows (record {
         read = b.read ++ reached.text;
         n = (b.n + length reached.events) + 1;
         ts = b.ts ++ transactions_in reached.spans;
-        counts = after_refusal (after_open (stream_choice old).ignored
-            (after_spans (stream_choice old).ignored b.counts reached.spans) reached.standing) (said_device front);
+        counts = after_refusal (after_open (stream_choice old.stream).ignored
+            (after_spans (stream_choice old.stream).ignored b.counts reached.spans) reached.standing)
+            (said_device front);
       }) new
       → (time : Option (List ℕ)) → ((more : List ℕ) → time ≡ event_time b.n (reached.text ++ more) (b.n + n))
-      → (added : List ℕ) (place : Place) → place ≡ place_of_last_word (b.read ++ reached.text)
-      → added ≡ stream_lines old
+      → (keeper : K) (added : List ℕ) (place : Place) → place ≡ place_of_last_word (b.read ++ reached.text)
+      → TellsFacts Keeps old.stream old.keeper keeper added
       (refusal_fact (b.ts ++ transactions_in reached.spans)
       (head_as (capped (b.n + length reached.events)) place time) front (Some event) refusal.reason refusal.expected
       ∷ [])
-      → HasToldOf b start new (behind_refusal reached n front event refusal) (text ++ added)
-  told_refusal law n front event refusal standing spells none still same times keeps knows time timed added place placed
-      added_is =
+      → HasToldOf Keeps b start (kept_by new keeper) (behind_refusal reached n front event refusal) (text ++ added)
+  told_refusal law n front event refusal standing spells none still same times keeps knows time timed keeper added place
+      placed tells =
       let span = RefusedSpan n front event refusal in
-      let counted = counted_packet b start old new reached text told n front standing in
+      let counted = counted_packet Keeps b start old new reached text told n front standing in
       let facts = λ (q : Place). refusal_fact (b.ts ++ transactions_in reached.spans)
       (head_as (capped (b.n + length reached.events)) q time) front (Some event) refusal.reason refusal.expected ∷ []
       in
-      told_refused n front event refusal _ added standing same times keeps
+      told_refused n front event refusal _ keeper added (facts place) standing same times keeps
       (counted_span _ None span still
       (ap (λ (c : CountsData). after_refusal c (said_device front)) (counted_none n front standing none))) knows
-      (subst (λ (l : List ℕ). AddsLines (stream_choice start) (stream_profile start) b reached.text reached.spans
-      (Open n front) span l)
-      (sym (added_is ∙ same_lines start old told.same (facts place)
-      ∙ ap (λ (q : Place). stream_lines start (facts q)) placed))
-      (refusal_adds (stream_choice start) (stream_profile start) b law reached.text reached.events reached.spans time n
-      front event refusal timed (same_choice b start old new reached text told
+      (subst (λ (l : List FactData). AddsFacts (stream_choice start.stream) b reached.text reached.spans
+      (Open n front) span l) (sym (ap facts placed))
+      (refusal_adds (stream_choice start.stream) b law reached.text reached.events reached.spans time n
+      front event refusal timed (same_choice Keeps b start old new reached text told
       (λ c. other_address c.ignored front ≡ None) none)
-      (same_choice b start old new reached text told (λ c. other_address c.ignored (front ++ event ∷ []) ≡ None)
-      still) told.at.between spells counted))
+      (same_choice Keeps b start old new reached text told (λ c. other_address c.ignored (front ++ event ∷ []) ≡ None)
+      still) told.at.between spells counted)) tells
 
   -- in an other: nothing is added
   pub told_other_refusal : (n : ℕ) (front : List Event) (event : Event) (refusal : RefusalData) (addr : ℕ)
       → reached.standing ≡ Open n front
-      → other_address (stream_choice old).ignored front ≡ Some addr
-      → other_address (stream_choice old).ignored (front ++ event ∷ []) ≡ Some addr
-      → IsSame old new → KnowsTimes new (behind_refusal reached n front event refusal)
+      → other_address (stream_choice old.stream).ignored front ≡ Some addr
+      → other_address (stream_choice old.stream).ignored (front ++ event ∷ []) ≡ Some addr
+      → IsSame old.stream new → KnowsTimes new (behind_refusal reached n front event refusal)
       → KeepsUnderWay b new reached.text (behind_passed (n + length front) event)
       → StreamKnows (record {
         read = b.read ++ reached.text;
         n = (b.n + length reached.events) + 1;
         ts = b.ts ++ transactions_in reached.spans;
-        counts = after_open (stream_choice old).ignored
-            (after_spans (stream_choice old).ignored b.counts reached.spans) reached.standing;
+        counts = after_open (stream_choice old.stream).ignored
+            (after_spans (stream_choice old.stream).ignored b.counts reached.spans) reached.standing;
       }) new
-      → HasToldOf b start new (behind_refusal reached n front event refusal) (text ++ [])
+      → HasToldOf Keeps b start (kept_by new old.keeper) (behind_refusal reached n front event refusal) (text ++ [])
   told_other_refusal n front event refusal addr standing is still same times keeps knows =
-      told_refused n front event refusal _ [] standing same times keeps
+      told_refused n front event refusal _ old.keeper [] [] standing same times keeps
       (counted_other n front addr (RefusedSpan n front event refusal) standing is still) knows
-      (other_refusal_adds (stream_choice start) (stream_profile start) b reached.text reached.spans n front event
+      (other_refusal_adds (stream_choice start.stream) b reached.text reached.spans n front event
       refusal
-      addr (same_choice b start old new reached text told (λ c. other_address c.ignored front ≡ Some addr) is)
-      (same_choice b start old new reached text told (λ c. other_address c.ignored (front ++ event ∷ []) ≡ Some addr)
-      still))
+      addr (same_choice Keeps b start old new reached text told (λ c. other_address c.ignored front ≡ Some addr) is)
+      (same_choice Keeps b start old new reached text told
+      (λ c. other_address c.ignored (front ++ event ∷ []) ≡ Some addr)
+      still)) (told_none (stream_choice old.stream) (stream_profile old.stream) _)
 
   -- the address byte of an other, refused itself
   pub told_begun_refusal : LastWordStands → (n : ℕ) (front : List Event) (event : Event) (refusal : RefusalData)
       (addr : ℕ) → reached.standing ≡ Open n front → Spells reached.text (reached.events ++ event ∷ [])
-      → BeginsOther (stream_choice old).ignored front event addr
-      → IsSame old new → KnowsTimes new (behind_refusal reached n front event refusal)
+      → BeginsOther (stream_choice old.stream).ignored front event addr
+      → IsSame old.stream new → KnowsTimes new (behind_refusal reached n front event refusal)
       → KeepsUnderWay b new reached.text (behind_passed (n + length front) event)
       → StreamKnows (record {
         read = b.read ++ reached.text;
         n = (b.n + length reached.events) + 1;
         ts = b.ts ++ transactions_in reached.spans;
-        counts = after_other (after_open (stream_choice old).ignored
-            (after_spans (stream_choice old).ignored b.counts reached.spans) reached.standing) addr;
+        counts = after_other (after_open (stream_choice old.stream).ignored
+            (after_spans (stream_choice old.stream).ignored b.counts reached.spans) reached.standing) addr;
       }) new
       → (time : Option (List ℕ)) → ((more : List ℕ) → time ≡ event_time b.n (reached.text ++ more) (b.n + n))
-      → (added : List ℕ) (place : Place) → place ≡ place_of_last_word (b.read ++ reached.text)
-      → added ≡ stream_lines old
+      → (keeper : K) (added : List ℕ) (place : Place) → place ≡ place_of_last_word (b.read ++ reached.text)
+      → TellsFacts Keeps old.stream old.keeper keeper added
       (other_fact (head_as (capped (b.n + length reached.events)) place time) addr ∷ [])
-      → HasToldOf b start new (behind_refusal reached n front event refusal) (text ++ added)
-  told_begun_refusal law n front event refusal addr standing spells other same times keeps knows time timed added place
-      placed added_is =
+      → HasToldOf Keeps b start (kept_by new keeper) (behind_refusal reached n front event refusal) (text ++ added)
+  told_begun_refusal law n front event refusal addr standing spells other same times keeps knows time timed keeper added
+      place placed tells =
       let span = RefusedSpan n front event refusal in
-      let counted = counted_packet b start old new reached text told n front standing in
+      let counted = counted_packet Keeps b start old new reached text told n front standing in
       let facts = λ (q : Place). other_fact (head_as (capped (b.n + length reached.events)) q time) addr ∷ [] in
-      told_refused n front event refusal _ added standing same times keeps
+      told_refused n front event refusal _ keeper added (facts place) standing same times keeps
       (counted_span _ (Some addr) span other.after
       (ap (λ (c : CountsData). after_other c addr) (counted_none n front standing other.before))) knows
-      (subst (λ (l : List ℕ). AddsLines (stream_choice start) (stream_profile start) b reached.text reached.spans
-      (Open n front) span l)
-      (sym (added_is ∙ same_lines start old told.same (facts place)
-      ∙ ap (λ (q : Place). stream_lines start (facts q)) placed))
-      (begun_refusal_adds (stream_choice start) (stream_profile start) b law reached.text reached.events reached.spans
+      (subst (λ (l : List FactData). AddsFacts (stream_choice start.stream) b reached.text reached.spans
+      (Open n front) span l) (sym (ap facts placed))
+      (begun_refusal_adds (stream_choice start.stream) b law reached.text reached.events reached.spans
       time n front event refusal addr timed
-      (same_choice b start old new reached text told (λ c. BeginsOther c.ignored front event addr) other)
-      told.at.between spells counted))
+      (same_choice Keeps b start old new reached text told (λ c. BeginsOther c.ignored front event addr) other)
+      told.at.between spells counted)) tells

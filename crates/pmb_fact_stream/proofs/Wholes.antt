@@ -12,7 +12,9 @@ use Rattle.pmb_bus.specs.Event.{AreBytes, canonical_text, character, text_of}
 use Rattle.pmb_bus.specs.Text.{EndsBetween}
 use Rattle.pmb_command.specs.Parts.{DeviceParts}
 use Rattle.pmb_json_objects.specs.Counts.{after_packet}
+use Rattle.pmb_facts.specs.Fact.{FactData}
 use Rattle.pmb_facts.specs.Packets.{packet_facts}
+use Rattle.pmb_keeper.specs.Setting.{Setting}
 use Rattle.pmb_places.specs.declared.places.Place.{Place}
 use Rattle.pmb_reader.specs.Reader.{Standing, Open}
 use Rattle.pmb_scan.specs.Reached.{Reached, behind_bytes, behind_event, behind_whole, standing_after}
@@ -22,15 +24,14 @@ use Rattle.pmb_transaction.specs.Packet.{Packet}
 use Rattle.pmb_transaction.specs.Transaction.{PartData, TransactionData, Alert, Call, NoAlert, Read}
 use Rattle.pmb_transaction.specs.Transaction.{Refused, Write}
 use Rattle.pmb_fact_stream.specs.declared.stream.Begun.{Begun}
+use Rattle.pmb_fact_stream.specs.declared.kept_stream.KeptStream.{KeptStream}
 use Rattle.pmb_fact_stream.specs.declared.stream.Stream.{Stream}
 use Rattle.pmb_fact_stream.specs.Before.{Before, with_reached}
 use Rattle.pmb_fact_stream.specs.Choice.{ChoiceData}
 use Rattle.pmb_fact_stream.specs.Others.{address_if, is_ignored, other_address}
 use Rattle.pmb_fact_stream.specs.Spans.{after_either, after_open, after_spans, event_place, event_time}
 use Rattle.pmb_fact_stream.specs.Spans.{transactions_in}
-use Rattle.pmb_fact_stream.specs.Stream.{HasToldOf, IsSame, StreamKnows, stream_choice, stream_profile}
-use Rattle.pmb_fact_stream.specs.Lines.{fact_lines}
-use Rattle.pmb_fact_stream.specs.Stream.{stream_lines, stream_time}
+use Rattle.pmb_fact_stream.specs.Stream.{HasToldOf, IsSame, StreamKnows, TellsFacts, stream_choice, stream_time}
 use Rattle.pmb_fact_stream.specs.machine.Begun.{begun_legs, kept_facts}
 use Rattle.pmb_fact_stream.specs.machine.Inside.{HasOneStart}
 use Rattle.pmb_fact_stream.specs.machine.Knowing.{IsCleared, IsCountOf, IsUnderWay, KeepsPacket, KeepsUnderWay}
@@ -38,8 +39,9 @@ use Rattle.pmb_fact_stream.specs.machine.Knowing.{KnowsTimes}
 use Rattle.pmb_fact_stream.proofs.Beginnings.{begins}
 use Rattle.pmb_fact_stream.proofs.Spans.{counts_append, transactions_append}
 use Rattle.pmb_fact_stream.proofs.Standing.{keeps_none, knows_as, whole_line}
-use Rattle.pmb_fact_stream.proofs.Adding.{AddsLines, LinesAre, lines_behind, lines_more, own_facts}
-use Rattle.pmb_fact_stream.proofs.Told.{same_lines, same_then}
+use Rattle.pmb_fact_stream.proofs.Adding.{AddsFacts, FactsAre, facts_behind, facts_more, own_facts}
+use Rattle.pmb_fact_stream.specs.Stream.{kept_by}
+use Rattle.pmb_fact_stream.proofs.Told.{same_then, tells_more}
 use Rattle.pmb_fact_stream.proofs.UnderWay.{time_in_packet}
 
 -- ---- its events: START, others, and STOP
@@ -113,7 +115,8 @@ no_other_line ignored events is not =
 
 -- ---- its facts, by what was kept of its START
 
-write_facts_whole : (before : List TransactionData) (place : ℕ → Place) (time : Option (List ℕ)) (n : ℕ) (rest : List Event)
+write_facts_whole : (before : List TransactionData) (place : ℕ → Place) (time : Option (List ℕ)) (n : ℕ)
+    (rest : List Event)
     (parts : List PartData)
     → length parts ≤ 1
     → kept_facts before time (begun_legs place n (Start ∷ [])) (Write parts) ≡ packet_facts before place time n
@@ -123,7 +126,8 @@ write_facts_whole before place time n rest [] one = refl
 write_facts_whole before place time n rest (part ∷ []) one = refl
 write_facts_whole before place time n rest (part ∷ next ∷ parts) one = absurd (omega (arith, one))
 
-refused_facts_whole : (before : List TransactionData) (place : ℕ → Place) (time : Option (List ℕ)) (n : ℕ) (rest : List Event)
+refused_facts_whole : (before : List TransactionData) (place : ℕ → Place) (time : Option (List ℕ)) (n : ℕ)
+    (rest : List Event)
     (parts : List PartData)
     (addr : ℕ) (sent : List ℕ) (at_read : Bool) → length parts ≡ 0
     → kept_facts before time (begun_legs place n (Start ∷ []))
@@ -181,18 +185,17 @@ bytes_in_line events bytes is text =
 
 -- ---- what it adds
 
--- its lines, by what was kept of its START
-whole_adds : (choice : ChoiceData) (profile : List DeviceParts) (b : Before) (reached : Reached)
+-- its facts, by what was kept of its START
+whole_adds : (choice : ChoiceData) (b : Before) (reached : Reached)
     (time : Option (List ℕ)) (begun : List Begun) (n : ℕ) (rest : List Event) (t : TransactionData) → HasOneStart t
     → ((more : List ℕ) → begun ≡ begun_legs (event_place b.read b.n ((reached.text ++ codes "S ") ++ more)) (b.n + n)
     (Start ∷ []))
     → ((more : List ℕ) → time ≡ event_time b.n ((reached.text ++ codes "S ") ++ more) (b.n + n))
     → other_address choice.ignored (whole_line rest) ≡ None
-    → AddsLines choice profile b (reached.text ++ canonical_text (whole_line rest)) reached.spans
+    → AddsFacts choice b (reached.text ++ canonical_text (whole_line rest)) reached.spans
     (Open n (Start ∷ [])) (ReadSpan n (whole_line rest) t)
-    (fact_lines choice profile (kept_facts (b.ts ++ transactions_in reached.spans) time
-    begun t))
-whole_adds choice profile b reached time begun n rest t one kept timed none more =
+    (kept_facts (b.ts ++ transactions_in reached.spans) time begun t)
+whole_adds choice b reached time begun n rest t one kept timed none more =
     let before = b.ts ++ transactions_in reached.spans in
     let place = event_place b.read b.n ((reached.text ++ canonical_text (whole_line rest)) ++ more) in
     let times = event_time b.n ((reached.text ++ canonical_text (whole_line rest)) ++ more) in
@@ -201,16 +204,15 @@ whole_adds choice profile b reached time begun n rest t one kept timed none more
     ++ more =
     sym (append_assoc (reached.text ++ codes "S ") (rest_text rest) more)
     ∙ ap (λ (text : List ℕ). text ++ more) (append_assoc reached.text (codes "S ") (rest_text rest)) in
-    ap (fact_lines choice profile)
-    (ap (λ (l : List Begun). kept_facts before time l t)
+    ap (λ (l : List Begun). kept_facts before time l t)
     (kept (rest_text rest ++ more) ∙ ap (λ (text : List ℕ). begun_legs (event_place b.read b.n text) (b.n + n)
     (Start ∷ [])) all)
     ∙ ap (λ (o : Option (List ℕ)). kept_facts before o (begun_legs place (b.n + n) (Start ∷ [])) t)
     (timed (rest_text rest ++ more) ∙ ap (λ (text : List ℕ). event_time b.n text (b.n + n)) all)
     ∙ facts_whole before place (times (b.n + n)) (b.n + n) (rest ++ Stop ∷ []) t one
-    ∙ sym (own_facts choice profile b place times (b.n + n)
+    ∙ sym (own_facts choice b place times (b.n + n)
     (packet_facts before place (times (b.n + n)) (b.n + n) (whole_line rest) t)
-    (other_address choice.ignored (whole_line rest)) none))
+    (other_address choice.ignored (whole_line rest)) none)
 
 -- ---- the visit
 
@@ -218,38 +220,41 @@ whole_adds choice profile b reached time begun n rest t one kept timed none more
 abbrev pub begun_whole : Reached → Reached
 begun_whole reached = behind_event (behind_bytes reached (codes "S ")) Start
 
-module _ (b : Before) (start mid new : Stream) (reached : Reached) (text : List ℕ) (n : ℕ) (rest : List Event)
-    (t : TransactionData) where
-  pub told_whole : HasToldOf b start mid (begun_whole reached) text → reached.standing ≡ Open n []
+module _ {K : Type 0} (Keeps : K → Setting → List FactData → Type 0) (b : Before) (start mid : KeptStream K)
+    (new : Stream) (reached : Reached) (text : List ℕ) (n : ℕ) (rest : List Event) (t : TransactionData) where
+  pub told_whole : HasToldOf Keeps b start mid (begun_whole reached) text → reached.standing ≡ Open n []
       → KnowsTimes new (behind_whole reached n (canonical_text (whole_line rest)) (whole_line rest) t)
-      → HasOneStart t → other_address (stream_choice mid).ignored (whole_line rest) ≡ None → IsSame mid new →
-      new.passing ≡ mid.passing → IsCleared new
+      → HasOneStart t → other_address (stream_choice mid.stream).ignored (whole_line rest) ≡ None → IsSame mid.stream
+      new →
+      new.passing ≡ mid.stream.passing → IsCleared new
       → StreamKnows (record {
         read = (b.read ++ (reached.text ++ codes "S ")) ++ rest_text rest;
         n = ((b.n + length (reached.events ++ Start ∷ [])) + length rest) + 1;
         ts = (b.ts ++ transactions_in reached.spans) ++ t ∷ [];
-        counts = after_packet (after_open (stream_choice mid).ignored
-            (after_spans (stream_choice mid).ignored b.counts reached.spans)
+        counts = after_packet (after_open (stream_choice mid.stream).ignored
+            (after_spans (stream_choice mid.stream).ignored b.counts reached.spans)
             (standing_after reached.standing Start)) t;
       }) new
-      → (added : List ℕ) → added ≡ stream_lines mid
-      (kept_facts (b.ts ++ transactions_in reached.spans) (stream_time mid) mid.begun.items t)
-      → HasToldOf b start new (behind_whole reached n (canonical_text (whole_line rest)) (whole_line rest) t)
-      (text ++ added)
-  told_whole told standing times one none same passing cleared knows added added_is =
+      → (keeper : K) (added : List ℕ) → TellsFacts Keeps mid.stream mid.keeper keeper added
+      (kept_facts (b.ts ++ transactions_in reached.spans) (stream_time mid.stream) mid.stream.begun.items t)
+      → HasToldOf Keeps b start (kept_by new keeper)
+      (behind_whole reached n (canonical_text (whole_line rest)) (whole_line rest) t) (text ++ added)
+  told_whole told standing times one none same passing cleared knows keeper added tells =
       let there = behind_whole reached n (canonical_text (whole_line rest)) (whole_line rest) t in
       let bytes = reached.text ++ canonical_text (whole_line rest) in
       let span = ReadSpan n (whole_line rest) t in
       -- what is kept after its START, by what was told so far
-      let kept : KeepsPacket b mid (reached.text ++ codes "S ") n (Start ∷ []) =
-      subst (λ (s : Standing). KeepsUnderWay b mid (reached.text ++ codes "S ") (standing_after s Start)) standing
+      let kept : KeepsPacket b mid.stream (reached.text ++ codes "S ") n (Start ∷ []) =
+      subst (λ (s : Standing). KeepsUnderWay b mid.stream (reached.text ++ codes "S ") (standing_after s Start))
+      standing
       told.at.packet in
       let counted : n + 1 ≡ length (reached.events ++ Start ∷ []) =
       subst (λ (s : Standing). IsCountOf (standing_after s Start) (length (reached.events ++ Start ∷ []))) standing
       told.at.counted in
       -- .. and its time
-      let timed : (more : List ℕ) → stream_time mid ≡ event_time b.n ((reached.text ++ codes "S ") ++ more) (b.n + n) =
-      time_in_packet mid.time (reached.text ++ codes "S ") (reached.events ++ Start ∷ []) (Start ∷ []) b.n n
+      let timed : (more : List ℕ) → stream_time mid.stream ≡ event_time b.n ((reached.text ++ codes "S ") ++ more)
+      (b.n + n) =
+      time_in_packet mid.stream.time (reached.text ++ codes "S ") (reached.events ++ Start ∷ []) (Start ∷ []) b.n n
       (subst (λ (s : Standing). IsUnderWay (standing_after s Start) (reached.events ++ Start ∷ [])) standing
       told.at.times.under_way) counted (λ none. cc none) told.at.times.time in
       -- how many events came, with those of the packet
@@ -257,19 +262,19 @@ module _ (b : Before) (start mid new : Stream) (reached : Reached) (text : List 
       length-append reached.events (Start ∷ []) in
       let own = two_more rest in
       let all = length-append reached.events (whole_line rest) in
-      -- the lines so far stay, whatever bytes follow
+      -- the facts so far stay, whatever bytes follow
+      let so_told = TellsFacts Keeps start.stream start.keeper mid.keeper text in
       let begun : standing_after reached.standing Start ≡ Open n (Start ∷ []) =
       ap (λ (s : Standing). standing_after s Start) standing in
-      let before : LinesAre (stream_choice start) (stream_profile start) b bytes reached.spans (Open n (Start ∷ []))
-      text =
-      subst (λ (l : List ℕ). LinesAre (stream_choice start) (stream_profile start) b l reached.spans
-      (Open n (Start ∷ [])) text) (append_assoc reached.text (codes "S ") (rest_text rest))
-      (lines_behind (stream_choice start) (stream_profile start) b (reached.text ++ codes "S ")
-      (rest_text rest) reached.spans (Open n (Start ∷ [])) text
-      (subst (λ (s : Standing). LinesAre (stream_choice start) (stream_profile start) b (reached.text ++ codes "S ")
-      reached.spans s text) begun told.lines)) in
-      -- what was counted, and the lines as a function of what they depend on
-      let ignored = (stream_choice mid).ignored in
+      let before : FactsAre (stream_choice start.stream) b bytes reached.spans (Open n (Start ∷ [])) so_told =
+      subst (λ (l : List ℕ). FactsAre (stream_choice start.stream) b l reached.spans (Open n (Start ∷ [])) so_told)
+      (append_assoc reached.text (codes "S ") (rest_text rest))
+      (facts_behind (stream_choice start.stream) b (reached.text ++ codes "S ") (rest_text rest) reached.spans
+      (Open n (Start ∷ [])) so_told
+      (subst (λ (s : Standing). FactsAre (stream_choice start.stream) b (reached.text ++ codes "S ") reached.spans s
+      so_told) begun told.told)) in
+      -- what was counted
+      let ignored = (stream_choice mid.stream).ignored in
       let counts = after_spans ignored b.counts reached.spans in
       let counts_are : after_packet (after_open ignored counts (standing_after reached.standing Start)) t
       ≡ after_spans ignored b.counts (reached.spans ++ span ∷ []) =
@@ -277,7 +282,7 @@ module _ (b : Before) (start mid new : Stream) (reached : Reached) (text : List 
       ∙ sym (ap (λ (o : Option ℕ). after_either counts o span) none)
       ∙ sym (counts_append ignored b.counts reached.spans (span ∷ [])) in
       record {
-        same = same_then start mid new told.same same;
+        same = same_then start.stream mid.stream new told.same same;
         at = record {
           between = told.at.between;
           profile = told.at.profile ∙ sym same.profile;
@@ -295,13 +300,12 @@ module _ (b : Before) (start mid new : Stream) (reached : Reached) (text : List 
           times = times;
         };
         time = times.time.time;
-        lines = lines_more (stream_choice start) (stream_profile start) b bytes reached.spans (Open n (Start ∷ []))
-            there.standing span text added (λ l. refl) before
-            (subst (λ (l : List ℕ). AddsLines (stream_choice start) (stream_profile start) b bytes reached.spans
-            (Open n (Start ∷ [])) span l)
-            (sym (added_is ∙ same_lines start mid told.same
-            (kept_facts (b.ts ++ transactions_in reached.spans) (stream_time mid) mid.begun.items t)))
-            (whole_adds (stream_choice start) (stream_profile start) b reached (stream_time mid) mid.begun.items n rest
+        told = facts_more (stream_choice start.stream) b bytes reached.spans (Open n (Start ∷ [])) there.standing span
+            so_told (TellsFacts Keeps start.stream start.keeper keeper (text ++ added))
+            (kept_facts (b.ts ++ transactions_in reached.spans) (stream_time mid.stream)
+            mid.stream.begun.items t) (λ l. refl) before
+            (whole_adds (stream_choice start.stream) b reached (stream_time mid.stream) mid.stream.begun.items n rest
             t one kept.begun timed
-            (subst (λ (c : ChoiceData). other_address c.ignored (whole_line rest) ≡ None) told.same.choice none)));
+            (subst (λ (c : ChoiceData). other_address c.ignored (whole_line rest) ≡ None) told.same.choice none))
+            (tells_more Keeps b start mid new (begun_whole reached) text told keeper added _ tells);
       }

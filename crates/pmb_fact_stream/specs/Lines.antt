@@ -12,12 +12,13 @@ use Rattle.pmb_log_lines.specs.Line.{line_of}
 use Rattle.pmb_transaction.specs.Transaction.{TransactionData}
 use Rattle.pmb_fact_stream.specs.Choice.{ChoiceData, gives_others}
 use Rattle.pmb_fact_stream.specs.declared.telling.Telling.{Telling}
-use Rattle.pmb_fact_stream.specs.declared.telling.Telling.TheVariants.{Objects, Lines}
+use Rattle.pmb_fact_stream.specs.declared.telling.Telling.TheVariants.{Objects, Lines, Nothing}
 
--- the line of a fact: its object as JSON, or its line for people
+-- the line of a fact: its object as JSON, or its line for people; or none
 abbrev pub told_line : Telling → SeenData → Head → WhatData → List ℕ
 told_line Objects seen head what = object_line (object_of seen head what).members
 told_line (Lines layout) seen head what = line_of layout seen head what
+told_line Nothing seen head what = []
 
 module _ (choice : ChoiceData) (profile : List DeviceParts) where
   -- what is known after some transactions
@@ -38,6 +39,7 @@ module _ (choice : ChoiceData) (profile : List DeviceParts) where
   abbrev pub last_lines_of : Telling → CountsData → List ℕ
   last_lines_of Objects counts = object_lines choice.devices (end_objects profile (gives_others choice) counts)
   last_lines_of (Lines layout) counts = []
+  last_lines_of Nothing counts = []
 
   abbrev pub last_lines : CountsData → List ℕ
   last_lines counts = last_lines_of choice.telling counts

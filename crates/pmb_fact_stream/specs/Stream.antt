@@ -3,17 +3,20 @@
 -- `StreamKnows b stream` says that a stream was given what `b` says; `StreamBegins b stream` that
 -- it stands between words, and no packet is under way; `StreamAt b stream reached` that it began
 -- there, and a scan that began with it has reached so much since. What they say of a stream's own
--- fields is in `machine`, and nothing here needs it to be understood.
+-- fields is in `machine`, and nothing here needs it to be understood. `Keeps` is what the keeper
+-- beside it says of the facts that it was given.
 use Rattle.std.specs.Prelude.{◌≡◌, ℕ, List, ◌++◌}
-use Rattle.pmb_command.specs.Parts.{DeviceParts}
 use Rattle.pmb_facts.specs.Fact.{FactData}
 use Rattle.pmb_json_objects.specs.Counts.{CountsData}
+use Rattle.pmb_keeper.specs.Setting.{Setting}
 use Rattle.pmb_scan.specs.Reached.{Reached}
 use Rattle.pmb_spans.specs.Spans.{moved_spans}
+use Rattle.pmb_fact_stream.specs.declared.kept_stream.KeptStream.{KeptStream}
 use Rattle.pmb_fact_stream.specs.declared.stream.Stream.{Stream}
 use Rattle.pmb_fact_stream.specs.Before.{Before}
 use Rattle.pmb_fact_stream.specs.UnderWay.{open_time}
 use Rattle.pmb_fact_stream.specs.Choice.{ChoiceData}
+use Rattle.pmb_fact_stream.specs.Keeping.{IsTold, KeepsOn, setting_under}
 use Rattle.pmb_fact_stream.specs.Lines.{fact_lines, last_lines}
 use Rattle.pmb_fact_stream.specs.Spans.{event_place, event_time, open_facts, span_facts}
 pub use Rattle.pmb_fact_stream.specs.machine.Knowing.{
@@ -31,11 +34,11 @@ pub record IsSame (start now : Stream) : Type 0 where
   pub choice : stream_choice now ≡ stream_choice start
   pub profile : stream_profile now ≡ stream_profile start
 
--- The lines of what a scan has reached that began after `b`, with that of an other that is under way,
--- whatever text follows: each place and each time is known by then.
-abbrev pub AreLinesOf : ChoiceData → List DeviceParts → Before → Reached → List ℕ → Type 0
-AreLinesOf choice profile b reached text =
-    (more : List ℕ) → text ≡ fact_lines choice profile
+-- Where a scan began after `b`, this holds of the facts of what it has reached, with that of an other
+-- that is under way, whatever text follows: each place and each time is known by then.
+abbrev pub HoldsOf : ChoiceData → Before → Reached → (List FactData → Type 0) → Type 0
+HoldsOf choice b reached Holds =
+    (more : List ℕ) → Holds
     (span_facts choice.ignored (event_place b.read b.n (reached.text ++ more)) (event_time b.n (reached.text ++ more))
     b.ts (moved_spans b.n reached.spans)
     ++ open_facts choice.ignored (event_place b.read b.n (reached.text ++ more))
@@ -52,15 +55,33 @@ stream_lines stream facts = fact_lines (stream_choice stream) (stream_profile st
 abbrev pub stream_last_lines : Stream → CountsData → List ℕ
 stream_last_lines stream counts = last_lines (stream_choice stream) (stream_profile stream) counts
 
--- Where the stream began after `b`, it stands at what was reached, and has put out the lines of
--- that.
-pub record HasToldOf (b : Before) (start now : Stream) (reached : Reached) (text : List ℕ) : Type 0 where
-  pub same : IsSame start now
-  pub at : StreamAt b now reached
-  pub time : KeepsOpenTime now reached
-  pub lines : AreLinesOf (stream_choice start) (stream_profile start) b reached text
+-- a stream with a keeper
+abbrev pub kept_by : {K : Type 0} → Stream → K → KeptStream K
+kept_by stream keeper = record { stream = stream; keeper = keeper }
 
--- As a visitor: it began somewhere, and this holds wherever it began.
-pub record StreamStands (start now : Stream) (reached : Reached) (text : List ℕ) : Type 0 where
-  pub begins : (b : Before) × StreamBegins b start
-  pub told : (b : Before) → StreamBegins b start → HasToldOf b start now reached text
+-- where its facts are seen
+abbrev pub stream_setting : Stream → Setting
+stream_setting stream = setting_under (stream_choice stream) (stream_profile stream)
+
+module _ {K : Type 0} (Keeps : K → Setting → List FactData → Type 0) where
+  -- A keeper has become another, and keeps these facts too.
+  abbrev pub KeepsFacts : Stream → K → K → List FactData → Type 0
+  KeepsFacts stream old new = KeepsOn (Keeps old (stream_setting stream)) (Keeps new (stream_setting stream))
+
+  -- .. and their lines are this text, as the stream tells them
+  abbrev pub TellsFacts : Stream → K → K → List ℕ → List FactData → Type 0
+  TellsFacts stream old new = IsTold (stream_choice stream) (stream_profile stream)
+      (Keeps old (stream_setting stream)) (Keeps new (stream_setting stream))
+
+  -- Where the stream began after `b`, it stands at what was reached, and has told the facts of that.
+  pub record HasToldOf (b : Before) (start now : KeptStream K) (reached : Reached) (text : List ℕ) : Type 0 where
+    pub same : IsSame start.stream now.stream
+    pub at : StreamAt b now.stream reached
+    pub time : KeepsOpenTime now.stream reached
+    pub told : HoldsOf (stream_choice start.stream) b reached
+        (TellsFacts start.stream start.keeper now.keeper text)
+
+  -- As a visitor: it began somewhere, and this holds wherever it began.
+  pub record StreamStands (start now : KeptStream K) (reached : Reached) (text : List ℕ) : Type 0 where
+    pub begins : (b : Before) × StreamBegins b start.stream
+    pub told : (b : Before) → StreamBegins b start.stream → HasToldOf b start now reached text

@@ -7,29 +7,34 @@ ghost use Rattle.pmb_facts.specs.Fact.{WhatData};
 ghost use Rattle.pmb_facts.specs.Stands.{IsShort, Stands};
 ghost use Rattle.pmb_io.specs.Calls.{WriterTells};
 ghost use Rattle.pmb_json_objects.specs.Head.{head_of};
+ghost use Rattle.pmb_keeper.specs.Setting.{before_fact, fact_seen};
 ghost use Rattle.pmb_fact_stream.specs.Before.{Before};
 ghost use Rattle.pmb_fact_stream.specs.Stream.{StreamKnows, stream_time};
 ghost use Rattle.pmb_fact_stream.specs.machine.Begun.{kept_at};
+ghost use Rattle.pmb_fact_stream.specs.machine.Knowing.{stream_seen};
 ghost use Rattle.pmb_fact_stream.specs.machine.Putting.{PutsFacts};
 
 use crate::stream::{Begun, Stream};
 use pmb_facts::{Fact, What};
 use pmb_io::{RunFault, Sink, Waiting, make_room};
 use pmb_json_objects::{OBJECT, is_wanted};
+use pmb_keeper::Keeper;
 
 impl<'p> Stream<'p> {
-    /// Puts out the line of a fact, if it is wanted.
-    pub(crate) fn put_fact<W: Sink>(
+    /// Hands a fact to the keeper, and puts out its line, if it is wanted.
+    pub(crate) fn put_fact<W: Sink, K: Keeper>(
         &self,
+        keeper: &mut K,
         fact: Fact<'_>,
         waiting: &mut Waiting,
         writer: &mut W,
     ) -> Result<(), RunFault>
         requires few { IsShort fact.what }
         ensures puts { (some : Before) (what : WhatData) → StreamKnows some self.now → Stands fact.entry.what what
-            → OnOk result (PutsFacts self.now (λ b. record { before = b.ts; head = head_of fact.entry.head; what = what } ∷ []) (W.told writer.old).held waiting.old.items (W.told writer.new).held waiting.new.items) }
+            → OnOk result (PutsFacts K.Keeps self.now keeper.old keeper.new (λ b. fact_seen (stream_seen self.now b) (head_of fact.entry.head) what ∷ []) (W.told writer.old).held waiting.old.items (W.told writer.new).held waiting.new.items) }
         ensures failed { WriterTells (W.told writer.old) (W.told writer.new) result }
     {
+        keeper.keep(&self.seen(), fact);
         if !is_wanted(self.choice.devices, fact.what.device()) {
             return Ok(());
         }
@@ -38,10 +43,10 @@ impl<'p> Stream<'p> {
         Ok(())
     }
 
-    /// Puts out the line of what begins with the START of the packet with a number, counted from 0, if
-    /// it is wanted.
-    pub(crate) fn put_at<W: Sink>(
+    /// Puts out the fact of what begins with the START of the packet with a number, counted from 0.
+    pub(crate) fn put_at<W: Sink, K: Keeper>(
         &self,
+        keeper: &mut K,
         index: usize,
         what: What<'_>,
         waiting: &mut Waiting,
@@ -49,14 +54,14 @@ impl<'p> Stream<'p> {
     ) -> Result<(), RunFault>
         requires few { IsShort what }
         ensures puts { (some : Before) (known : WhatData) → StreamKnows some self.now → Stands what.entry known
-            → OnOk result (PutsFacts self.now (λ b. kept_at b.ts (stream_time self.now) index self.now.begun.items known) (W.told writer.old).held waiting.old.items (W.told writer.new).held waiting.new.items) }
+            → OnOk result (PutsFacts K.Keeps self.now keeper.old keeper.new (λ b. kept_at (before_fact b.ts known) (stream_time self.now) index self.now.begun.items known) (W.told writer.old).held waiting.old.items (W.told writer.new).held waiting.new.items) }
         ensures failed { WriterTells (W.told writer.old) (W.told writer.new) result }
     {
         let Some(begun) = self.begun_at(index) else {
             return Ok(());
         };
         let head = self.head(begun);
-        self.put_fact(Fact { head, what }, waiting, writer)
+        self.put_fact(keeper, Fact { head, what }, waiting, writer)
     }
 
     /// The START of the packet with a number, counted from 0.

@@ -14,15 +14,16 @@ ghost use Rattle.pmb_io.specs.Engines.{PutsOut};
 ghost use Rattle.pmb_reader.specs.Reader.{Open};
 ghost use Rattle.pmb_scan.specs.Reached.{Reached, IsWhole, behind_whole};
 ghost use Rattle.pmb_transaction.specs.Transaction.{transaction_data};
-ghost use Rattle.pmb_fact_stream.specs.declared.stream.Stream.{Stream as StreamValue};
+ghost use Rattle.pmb_fact_stream.specs.declared.kept_stream.KeptStream.{KeptStream as Kept};
 ghost use Rattle.pmb_fact_stream.specs.Stream.{StreamStands};
 ghost use Rattle.pmb_fact_stream.specs.machine.Inside.{HasOneStart, TakenInside};
 
-use crate::stream::Stream;
+use crate::kept_stream::KeptStream;
 use pmb_bus::Event;
 use pmb_bus::laws::{canonical_text_spells, texts_may_be_cut_between_words};
 use pmb_canonical::front_event;
 use pmb_io::{RunFault, Sink, Waiting};
+use pmb_keeper::Keeper;
 use pmb_scan::Visitor;
 use pmb_table::laws::accepted_bus;
 use pmb_transaction::Transaction;
@@ -54,7 +55,7 @@ fn text_length(event: Event) -> usize
     }
 }
 
-impl<'p> Stream<'p> {
+impl<'p, K: Keeper> KeptStream<'p, K> {
     /// Takes the events of a packet before STOP from its canonical text, and returns what is left of it.
     fn take_inside<'t, W: Sink>(
         &mut self,
@@ -62,10 +63,10 @@ impl<'p> Stream<'p> {
         waiting: &mut Waiting,
         writer: &mut W,
     ) -> Result<&'t [u8], RunFault>
-        ensures takes { (start : StreamValue) (reached : Reached) (put : List ℕ) (n : ℕ) (inside : List BusEvent) → StreamStands start self.old reached put
+        ensures takes { (start : Kept K) (reached : Reached) (put : List ℕ) (n : ℕ) (inside : List BusEvent) → StreamStands K.Keeps start self.old reached put
             → EndsBetween reached.text → Spells reached.text reached.events → reached.standing ≡ Open n [] → AreInside inside
             → text.now ≡ canonical_text (inside ++ Stop ∷ [])
-            → IfOk result (λ rest. PutsOut (λ more. TakenInside start self.new reached (put ++ more) n inside rest.now)
+            → IfOk result (λ rest. PutsOut (λ more. TakenInside K.Keeps start self.new reached (put ++ more) n inside rest.now)
             (W.told writer.old).held waiting.old.items (W.told writer.new).held waiting.new.items) }
         ensures failed { WriterTells (W.told writer.old) (W.told writer.new) result }
     {
@@ -89,14 +90,14 @@ impl<'p> Stream<'p> {
         waiting: &mut Waiting,
         writer: &mut W,
     ) -> Result<(), RunFault>
-        ensures visits { (start : StreamValue) (reached : Reached) (text : List ℕ) (n : ℕ) (events : List BusEvent) → StreamStands start self.old reached text
+        ensures visits { (start : Kept K) (reached : Reached) (text : List ℕ) (n : ℕ) (events : List BusEvent) → StreamStands K.Keeps start self.old reached text
             → EndsBetween reached.text → Spells reached.text reached.events → reached.standing ≡ Open n []
             → IsWhole reached.profile (transaction_data transaction.now) events bytes.now
-            → OnOk result (PutsOut (λ more. StreamStands start self.new (behind_whole reached n bytes.now events (transaction_data transaction.now)) (text ++ more))
+            → OnOk result (PutsOut (λ more. StreamStands K.Keeps start self.new (behind_whole reached n bytes.now events (transaction_data transaction.now)) (text ++ more))
             (W.told writer.old).held waiting.old.items (W.told writer.new).held waiting.new.items) }
         ensures failed { WriterTells (W.told writer.old) (W.told writer.new) result }
     {
-        accepted_bus(self.profile);
+        accepted_bus(self.stream.profile);
         packets_are_bytes();
         packet_ends_with_stop();
         texts_may_be_cut_between_words();

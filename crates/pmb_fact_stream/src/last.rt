@@ -22,7 +22,7 @@ ghost use Rattle.pmb_fact_stream.specs.Before.{Before};
 ghost use Rattle.pmb_fact_stream.specs.Choice.{gives_others};
 ghost use Rattle.pmb_fact_stream.specs.Others.{is_untold};
 ghost use Rattle.pmb_fact_stream.specs.Spans.{CountsTally, IsNoneOutside, after_spans, bad_token_fact, event_place, event_time, other_fact, refusal_fact, span_facts, transactions_in};
-ghost use Rattle.pmb_fact_stream.specs.Stream.{IsSame, StreamAt, StreamKnows, stream_choice, stream_last_lines, stream_lines, stream_profile, stream_tally, stream_time};
+ghost use Rattle.pmb_fact_stream.specs.Stream.{IsSame, KeepsFacts, StreamAt, StreamKnows, stream_choice, stream_last_lines, stream_lines, stream_profile, stream_tally, stream_time};
 ghost use Rattle.pmb_fact_stream.specs.machine.Counts.{counts_of};
 ghost use Rattle.pmb_fact_stream.specs.machine.Knowing.{KeepsTimes};
 ghost use Rattle.pmb_fact_stream.specs.machine.Putting.{PutsFacts};
@@ -34,55 +34,67 @@ use pmb_bus::Event;
 use pmb_facts::{Fact, What};
 use pmb_io::{RunFault, Sink, Waiting, make_room};
 use pmb_json_objects::{OBJECT, device_line, end_line, is_wanted};
+use pmb_keeper::Keeper;
 use pmb_places::Place;
 use pmb_places::laws::each_word_has_a_place;
 use pmb_reader::Refusal;
 
 impl<'p> Stream<'p> {
-    /// Puts out the line of the word under way, which is no token, and counts it.
+    /// Puts out the fact of the word under way, which is no token, and counts it.
     ///
     /// # Errors
     ///
     /// `Write` where the writer failed.
-    pub fn put_bad_word<W: Sink>(
+    pub fn put_bad_word<W: Sink, K: Keeper>(
         &mut self,
+        keeper: &mut K,
         waiting: &mut Waiting,
         writer: &mut W,
     ) -> Result<(), RunFault>
         ensures puts { (b : Before) → StreamKnows b self.old
             → OnOk result (PutsText (W.told writer.old).held waiting.old.items (W.told writer.new).held waiting.new.items
             (stream_lines self.old (bad_token_fact (record { at = capped b.n; place = place_of_last_word b.read; time = stream_time self.old }) (open_word b.read) ∷ []))) }
+        ensures kept { (b : Before) → StreamKnows b self.old
+            → OnOk result (KeepsFacts K.Keeps self.old keeper.old keeper.new (bad_token_fact (record { at = capped b.n; place = place_of_last_word b.read; time = stream_time self.old }) (open_word b.read) ∷ [])) }
         ensures knows { (b : Before) → StreamKnows b self.old → OnOk result (StreamKnows (record b { counts = after_bad_token b.counts }) self.new) }
         ensures same { IsSame self.old self.new }
         ensures failed { WriterTells (W.told writer.old) (W.told writer.new) result }
     {
-        self.put_word(waiting, writer)?;
+        self.put_word(keeper, waiting, writer)?;
         self.counts.count_bad_token();
         self.tally.count_refusal();
         Ok(())
     }
 
-    /// Puts out the line of the word under way.
-    fn put_word<W: Sink>(&self, waiting: &mut Waiting, writer: &mut W) -> Result<(), RunFault>
+    /// Puts out the fact of the word under way.
+    fn put_word<W: Sink, K: Keeper>(
+        &self,
+        keeper: &mut K,
+        waiting: &mut Waiting,
+        writer: &mut W,
+    ) -> Result<(), RunFault>
         ensures puts { (b : Before) → StreamKnows b self.now
             → OnOk result (PutsText (W.told writer.old).held waiting.old.items (W.told writer.new).held waiting.new.items
             (stream_lines self.now (bad_token_fact (record { at = capped b.n; place = place_of_last_word b.read; time = stream_time self.now }) (open_word b.read) ∷ []))) }
+        ensures kept { (b : Before) → StreamKnows b self.now
+            → OnOk result (KeepsFacts K.Keeps self.now keeper.old keeper.new (bad_token_fact (record { at = capped b.n; place = place_of_last_word b.read; time = stream_time self.now }) (open_word b.read) ∷ [])) }
         ensures failed { WriterTells (W.told writer.old) (W.told writer.new) result }
     {
         let head = self.head_at(self.count, self.places.word());
         let what = What::BadToken {
             word: self.word.bytes(),
         };
-        self.put_fact(Fact { head, what }, waiting, writer)
+        self.put_fact(keeper, Fact { head, what }, waiting, writer)
     }
 
-    /// Puts out the last lines: of an end inside a packet, if it is one, and of what was counted.
+    /// Puts out the fact of an end inside a packet, if it is one, and the last lines, of what was counted.
     ///
     /// # Errors
     ///
     /// `Write` where the writer failed.
-    pub fn put_end<W: Sink>(
+    pub fn put_end<W: Sink, K: Keeper>(
         &mut self,
+        keeper: &mut K,
         end: Option<Refusal>,
         waiting: &mut Waiting,
         writer: &mut W,
@@ -93,6 +105,10 @@ impl<'p> Stream<'p> {
             (span_facts (stream_choice self.old).ignored (event_place b.read b.n reached.text) (event_time b.n reached.text) (b.ts ++ transactions_in reached.spans)
             (moved_spans b.n (filter (is_untold (stream_choice self.old).ignored) (end_spans reached.standing end))))
             ++ stream_last_lines self.old (after_spans (stream_choice self.old).ignored b.counts (reached.spans ++ end_spans reached.standing end)))) }
+        ensures kept { (b : Before) (reached : Reached) → StreamAt b self.old reached → Spells reached.text reached.events → Truncates reached end → IsNoneOutside reached end
+            → OnOk result (KeepsFacts K.Keeps self.old keeper.old keeper.new
+            (span_facts (stream_choice self.old).ignored (event_place b.read b.n reached.text) (event_time b.n reached.text) (b.ts ++ transactions_in reached.spans)
+            (moved_spans b.n (filter (is_untold (stream_choice self.old).ignored) (end_spans reached.standing end))))) }
         ensures tally { (b : Before) (reached : Reached) → StreamAt b self.old reached → Truncates reached end → IsNoneOutside reached end
             → OnOk result (CountsTally (after_spans (stream_choice self.old).ignored b.counts (reached.spans ++ end_spans reached.standing end)) (stream_tally self.new)) }
         ensures same { IsSame self.old self.new }
@@ -102,11 +118,11 @@ impl<'p> Stream<'p> {
         match end {
             None => self.put_counts(waiting, writer),
             Some(refusal) => {
-                // The line of an other is out since its address byte.
+                // The fact of an other is out since its address byte.
                 if let Front::Other = self.front {
                     return self.put_counts(waiting, writer);
                 }
-                self.put_refusal(None, self.places.end(), refusal, waiting, writer)?;
+                self.put_refusal(keeper, None, self.places.end(), refusal, waiting, writer)?;
                 self.count_refusal();
                 self.put_counts(waiting, writer)
             }
@@ -125,7 +141,7 @@ impl<'p> Stream<'p> {
     {
         match self.choice.telling {
             Telling::Objects => self.put_count_objects(waiting, writer),
-            Telling::Lines(_) => Ok(()),
+            Telling::Lines(_) | Telling::Nothing => Ok(()),
         }
     }
 
@@ -180,9 +196,10 @@ impl<'p> Stream<'p> {
         Ok(())
     }
 
-    /// Puts out the line of a refusal, if it is wanted: of an event, or of the end.
-    pub(crate) fn put_refusal<W: Sink>(
+    /// Puts out the fact of a refusal: of an event, or of the end.
+    pub(crate) fn put_refusal<W: Sink, K: Keeper>(
         &self,
+        keeper: &mut K,
         event: Option<Event>,
         place: Place,
         refusal: Refusal,
@@ -190,7 +207,7 @@ impl<'p> Stream<'p> {
         writer: &mut W,
     ) -> Result<(), RunFault>
         ensures puts { (some : Before) (front : List BusEvent) → StreamKnows some self.now → Viable (stream_profile self.now) front → SaidStandsAt self.now.said front
-            → OnOk result (PutsFacts self.now (λ b. refusal_fact b.ts (record { at = capped b.n; place = place; time = stream_time self.now }) front event refusal.reason refusal.expected ∷ [])
+            → OnOk result (PutsFacts K.Keeps self.now keeper.old keeper.new (λ b. refusal_fact b.ts (record { at = capped b.n; place = place; time = stream_time self.now }) front event refusal.reason refusal.expected ∷ [])
             (W.told writer.old).held waiting.old.items (W.told writer.new).held waiting.new.items) }
         ensures failed { WriterTells (W.told writer.old) (W.told writer.new) result }
     {
@@ -201,24 +218,25 @@ impl<'p> Stream<'p> {
             reason: refusal.reason,
             expected: refusal.expected,
         };
-        self.put_fact(Fact { head, what }, waiting, writer)
+        self.put_fact(keeper, Fact { head, what }, waiting, writer)
     }
 
-    /// Puts out the line of an other, if it is wanted, whose address byte is the event that comes next
-    /// and stands there.
-    pub(crate) fn put_other<W: Sink>(
+    /// Puts out the fact of an other, whose address byte is the event that comes next and stands there.
+    pub(crate) fn put_other<W: Sink, K: Keeper>(
         &self,
+        keeper: &mut K,
         addr: u8,
         place: Place,
         waiting: &mut Waiting,
         writer: &mut W,
     ) -> Result<(), RunFault>
-        ensures puts { (some : Before) → StreamKnows some self.now → OnOk result (PutsFacts self.now (λ b. other_fact (record { at = capped b.n; place = place; time = stream_time self.now }) addr ∷ [])
+        ensures puts { (some : Before) → StreamKnows some self.now → OnOk result (PutsFacts K.Keeps self.now keeper.old keeper.new (λ b. other_fact (record { at = capped b.n; place = place; time = stream_time self.now }) addr ∷ [])
             (W.told writer.old).held waiting.old.items (W.told writer.new).held waiting.new.items) }
         ensures failed { WriterTells (W.told writer.old) (W.told writer.new) result }
     {
         let head = self.head_at(self.count, place);
         self.put_fact(
+            keeper,
             Fact {
                 head,
                 what: What::Other { addr },

@@ -23,6 +23,8 @@ pub enum Telling {
     Objects,
     /// Each as a line for people, whose columns are that wide.
     Lines(Layout),
+    /// Not at all.
+    Nothing,
 }
 
 impl Telling {
@@ -37,6 +39,7 @@ impl Telling {
         match self {
             Telling::Objects => append_object(waiting, seen, fact),
             Telling::Lines(layout) => append_log_line(waiting, layout, seen, fact),
+            Telling::Nothing => {}
         }
     }
 }

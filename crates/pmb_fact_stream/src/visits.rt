@@ -17,7 +17,7 @@ ghost use Rattle.pmb_partial_packet.specs.Standing.{SaidStandsAt};
 ghost use Rattle.pmb_scan.specs.Reached.{MayGoOn, Reached, behind_event, standing_after};
 ghost use Rattle.pmb_times.specs.Times.{TimesStandAt};
 ghost use Rattle.pmb_transaction.specs.Transaction.{transaction_data};
-ghost use Rattle.pmb_fact_stream.specs.declared.stream.Stream.{Stream as StreamValue};
+ghost use Rattle.pmb_fact_stream.specs.declared.kept_stream.KeptStream.{KeptStream as Kept};
 ghost use Rattle.pmb_fact_stream.specs.Before.{Before};
 ghost use Rattle.pmb_io.specs.Calls.{WriterTells};
 ghost use Rattle.pmb_io.specs.Engines.{PutsOut};
@@ -29,10 +29,12 @@ ghost use Rattle.pmb_fact_stream.specs.machine.OpenTime.{HasTime, KeepsTime};
 
 use crate::front::{Front, is_other};
 use crate::groups::is_group;
+use crate::kept_stream::KeptStream;
 use crate::stream::{Begun, STARTS, Stream};
 use pmb_bus::Event;
 use pmb_bus::laws::texts_may_be_cut_between_words;
 use pmb_io::{RunFault, Sink, Waiting};
+use pmb_keeper::Keeper;
 use pmb_places::laws::{texts_end_between_words, the_last_word_stands_there};
 use pmb_reader::Refusal;
 use pmb_scan::Visitor;
@@ -114,18 +116,6 @@ impl<'p> Stream<'p> {
         self.count = self.count.saturating_add(1);
     }
 
-    /// Takes the next event, which ends no packet, is not refused and begins no other, and counts it.
-    #[inline]
-    pub(crate) fn take_next(&mut self, event: Event)
-        ensures { (start : StreamValue) (reached : Reached) (text : List ℕ) → StreamStands start self.old reached text
-            → Spells reached.text (reached.events ++ event ∷ []) → MayGoOn reached.standing event
-            → other_begun_at (stream_choice self.old).ignored reached.standing event ≡ None
-            → StreamStands start self.new (behind_event reached event) text }
-    {
-        self.take_event(event);
-        self.count_event();
-    }
-
     /// Takes the transaction of the packet that ends, and forgets the packet.
     pub(crate) fn take_packet(&mut self, transaction: &Transaction)
         ensures knows { (b : Before) → StreamKnows b self.old
@@ -202,29 +192,6 @@ impl<'p> Stream<'p> {
         self.time.take(event);
         self.passing = passes_on(event);
     }
-
-    /// Takes the address byte of an other, and puts out its line.
-    fn take_other<W: Sink>(
-        &mut self,
-        event: Event,
-        addr: u8,
-        waiting: &mut Waiting,
-        writer: &mut W,
-    ) -> Result<(), RunFault>
-        ensures visits { (start : StreamValue) (reached : Reached) (text : List ℕ) → StreamStands start self.old reached text
-            → Spells reached.text (reached.events ++ event ∷ []) → MayGoOn reached.standing event
-            → other_begun_at (stream_choice self.old).ignored reached.standing event ≡ Some addr
-            → OnOk result (PutsOut (λ more. StreamStands start self.new (behind_event reached event) (text ++ more))
-            (W.told writer.old).held waiting.old.items (W.told writer.new).held waiting.new.items) }
-        ensures failed { WriterTells (W.told writer.old) (W.told writer.new) result }
-    {
-        the_last_word_stands_there();
-        self.put_other(addr, self.places.word(), waiting, writer)?;
-        self.take_event(event);
-        self.count_event();
-        self.counts.count_other(addr);
-        Ok(())
-    }
 }
 
 /// Whether events are passed over after one that is: up to the next STOP.
@@ -238,12 +205,51 @@ fn passes_on(event: Event) -> bool
     }
 }
 
-impl<'p> Visitor for Stream<'p> {
-    ghost Stands = { StreamStands };
+impl<'p, K: Keeper> KeptStream<'p, K> {
+    /// Takes the next event, which ends no packet, is not refused and begins no other, and counts it.
+    #[inline]
+    fn take_next(&mut self, event: Event)
+        ensures { (start : Kept K) (reached : Reached) (text : List ℕ) → StreamStands K.Keeps start self.old reached text
+            → Spells reached.text (reached.events ++ event ∷ []) → MayGoOn reached.standing event
+            → other_begun_at (stream_choice self.old.stream).ignored reached.standing event ≡ None
+            → StreamStands K.Keeps start self.new (behind_event reached event) text }
+    {
+        self.stream.take_event(event);
+        self.stream.count_event();
+    }
+
+    /// Takes the address byte of an other, and puts out its fact.
+    fn take_other<W: Sink>(
+        &mut self,
+        event: Event,
+        addr: u8,
+        waiting: &mut Waiting,
+        writer: &mut W,
+    ) -> Result<(), RunFault>
+        ensures visits { (start : Kept K) (reached : Reached) (text : List ℕ) → StreamStands K.Keeps start self.old reached text
+            → Spells reached.text (reached.events ++ event ∷ []) → MayGoOn reached.standing event
+            → other_begun_at (stream_choice self.old.stream).ignored reached.standing event ≡ Some addr
+            → OnOk result (PutsOut (λ more. StreamStands K.Keeps start self.new (behind_event reached event) (text ++ more))
+            (W.told writer.old).held waiting.old.items (W.told writer.new).held waiting.new.items) }
+        ensures failed { WriterTells (W.told writer.old) (W.told writer.new) result }
+    {
+        the_last_word_stands_there();
+        let place = self.stream.places.word();
+        self.stream
+            .put_other(&mut self.keeper, addr, place, waiting, writer)?;
+        self.stream.take_event(event);
+        self.stream.count_event();
+        self.stream.counts.count_other(addr);
+        Ok(())
+    }
+}
+
+impl<'p, K: Keeper> Visitor for KeptStream<'p, K> {
+    ghost Stands = { StreamStands K.Keeps };
 
     #[inline]
     fn visit_bytes(&mut self, bytes: &[u8]) {
-        self.take_text(bytes);
+        self.stream.take_text(bytes);
     }
 
     #[inline]
@@ -253,7 +259,7 @@ impl<'p> Visitor for Stream<'p> {
         waiting: &mut Waiting,
         writer: &mut W,
     ) -> Result<(), RunFault> {
-        match self.front.begins_other(event, &self.choice) {
+        match self.stream.front.begins_other(event, &self.stream.choice) {
             None => {
                 self.take_next(event);
                 Ok(())
@@ -269,12 +275,13 @@ impl<'p> Visitor for Stream<'p> {
         writer: &mut W,
     ) -> Result<(), RunFault> {
         packet_ends_with_stop();
-        if let Front::Other = self.front {
-            self.end_packet(transaction);
+        if let Front::Other = self.stream.front {
+            self.stream.end_packet(transaction);
             return Ok(());
         }
-        self.put_packet(transaction, waiting, writer)?;
-        self.take_packet(transaction);
+        self.stream
+            .put_packet(&mut self.keeper, transaction, waiting, writer)?;
+        self.stream.take_packet(transaction);
         Ok(())
     }
 
@@ -289,10 +296,10 @@ impl<'p> Visitor for Stream<'p> {
         if is_group(transaction) {
             return self.take_group(bytes, transaction, waiting, writer);
         }
-        if is_other(bytes, &self.choice) {
+        if is_other(bytes, &self.stream.choice) {
             return self.take_group(bytes, transaction, waiting, writer);
         }
-        accepted_bus(self.profile);
+        accepted_bus(self.stream.profile);
         packets_are_bytes();
         packet_ends_with_stop();
         texts_may_be_cut_between_words();
@@ -301,9 +308,11 @@ impl<'p> Visitor for Stream<'p> {
         // packet.
         self.visit_bytes(b"S ");
         self.take_next(Event::Start);
-        self.put_packet(transaction, waiting, writer)?;
-        self.take_line(bytes.len().saturating_sub(2), count.saturating_sub(2));
-        self.take_packet(transaction);
+        self.stream
+            .put_packet(&mut self.keeper, transaction, waiting, writer)?;
+        self.stream
+            .take_line(bytes.len().saturating_sub(2), count.saturating_sub(2));
+        self.stream.take_packet(transaction);
         Ok(())
     }
 
@@ -315,19 +324,22 @@ impl<'p> Visitor for Stream<'p> {
         writer: &mut W,
     ) -> Result<(), RunFault> {
         the_last_word_stands_there();
-        self.time.begin(&self.times);
-        if let Some(addr) = self.front.begins_other(event, &self.choice) {
-            self.put_other(addr, self.places.word(), waiting, writer)?;
-            self.counts.count_other(addr);
-            self.pass_over(event);
+        let stream = &mut self.stream;
+        let keeper = &mut self.keeper;
+        stream.time.begin(&stream.times);
+        let place = stream.places.word();
+        if let Some(addr) = stream.front.begins_other(event, &stream.choice) {
+            stream.put_other(keeper, addr, place, waiting, writer)?;
+            stream.counts.count_other(addr);
+            stream.pass_over(event);
             return Ok(());
         }
-        if let Front::Other = self.front {
-            self.pass_over(event);
+        if let Front::Other = stream.front {
+            stream.pass_over(event);
             return Ok(());
         }
-        self.put_refusal(Some(event), self.places.word(), refusal, waiting, writer)?;
-        self.take_refused(event);
+        stream.put_refusal(keeper, Some(event), place, refusal, waiting, writer)?;
+        stream.take_refused(event);
         Ok(())
     }
 }

@@ -93,7 +93,7 @@ both_say_no_more timing profile one other (p ∷ a) (w ∷ b) c d first second =
     (first.0, both_say_no_more timing profile one other a b c d first.1 second)
 
 -- events have as many STARTs wherever they stand
-as_many_starts : (m n : ℕ) (events : List Event) → length (starts m events) ≡ length (starts n events)
+pub as_many_starts : (m n : ℕ) (events : List Event) → length (starts m events) ≡ length (starts n events)
 as_many_starts m n [] = refl
 as_many_starts m n (Start ∷ events) = ap suc (as_many_starts (m + 1) (n + 1) events)
 as_many_starts m n (Byte b ∷ events) = as_many_starts (m + 1) (n + 1) events
@@ -101,7 +101,7 @@ as_many_starts m n (Ack ∷ events) = as_many_starts (m + 1) (n + 1) events
 as_many_starts m n (Nack ∷ events) = as_many_starts (m + 1) (n + 1) events
 as_many_starts m n (Stop ∷ events) = as_many_starts (m + 1) (n + 1) events
 
-one_of_each : (k : ℕ) (ats bts : List ℕ) → length ats ≡ length bts
+pub one_of_each : (k : ℕ) (ats bts : List ℕ) → length ats ≡ length bts
     → length (take 1 (drop k ats)) ≡ length (take 1 (drop k bts))
 one_of_each k ats bts long = omega (
   arith,

@@ -1,3 +1,4 @@
 pub mod Objects
 pub mod Pieces
+pub mod Cut
 pub mod Lines

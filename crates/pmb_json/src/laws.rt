@@ -2,6 +2,7 @@
 
 ghost use Rattle.std.specs.List.{Contains};
 ghost use Rattle.std.specs.Prelude.{◌≡◌, ◌≢◌, ℕ, Option, Some, List, [], ◌++◌};
+ghost use Rattle.pmb_capture.specs.Cut.{EndsAtCut};
 ghost use Rattle.pmb_command.specs.Bus.{IsBus};
 ghost use Rattle.pmb_command.specs.Parts.{DeviceParts, device_with};
 ghost use Rattle.pmb_facts.specs.Fact.{FactData};
@@ -11,6 +12,7 @@ ghost use Rattle.pmb_fact_stream.specs.Lines.{fact_lines};
 ghost use Rattle.pmb_fact_stream.specs.Spans.{span_facts};
 ghost use Rattle.pmb_fact_stream.specs.declared.telling.Telling.TheVariants.{Objects};
 ghost use Rattle.pmb_io.specs.declared.tally.Tally.{Tally};
+ghost use Rattle.pmb_json.specs.Cut.{AreOfPieces, said_in};
 ghost use Rattle.pmb_json.specs.Lines.{AllMakeFormats, AreJsonLines};
 ghost use Rattle.pmb_json.specs.Objects.{objects_of};
 ghost use Rattle.pmb_json.specs.Pieces.{CanBeCutBehind, EachSaysNoMore, EndsWithLine, IsNumber, OtherTimes, SameTimes, SaysNoMore, TellNoMore, Timing, all_known};
@@ -32,8 +34,8 @@ use pmb_facts::laws::{objects_are_of_facts, objects_name_the_device};
 use pmb_json_objects::laws::{all_objects_are_json, objects_are_json};
 use pmb_json_text::laws::{spelling_fits_in_line, spelling_is_json};
 use pmb_places::laws::places_are_in_range;
-use pmb_spans::laws::{spans_may_be_cut, spans_move};
-use pmb_telling::laws::one_list_of_facts;
+use pmb_spans::laws::{each_list_has_spans, spans_may_be_cut, spans_move};
+use pmb_telling::laws::{one_list_of_facts, some_text_is_told};
 use pmb_times::laws::{times_are_short, times_of_a_piece};
 use pmb_unknown_start::laws::{all_that_is_known_is_the_context, pieces_say_what_the_whole_says};
 
@@ -123,4 +125,24 @@ pub fn texts_of_pieces_say_no_more()
     spans_may_be_cut();
     pieces_say_what_the_whole_says();
     all_that_is_known_is_the_context();
+}
+
+/// What the pieces of a capture say, the whole says, and nothing else: where a text is cut between words
+/// behind a STOP, with no bad token before it, the facts of the whole say what those of the first piece say,
+/// and then what those of the second say. Only where and when a fact begins, and what came before it, is
+/// another. The second piece may have bad tokens, and end inside a packet. So it is under a profile that is
+/// accepted, whichever addresses are ignored; and wherever a capture is cut so, there are such facts. A text
+/// whose last event is STOP, and that ends with LF, can be cut at its end (`counts_add_up` of `pmb_capture`).
+pub fn pieces_say_the_same()
+    ensures said { (ignored : Option (List ℕ)) (profile : List DeviceParts) (after : AfterBadToken) (front back : List ℕ) (firsts others whole : List FactData)
+        → IsBus profile → AreOfPieces ignored profile after front back firsts others whole → said_in whole ≡ said_in firsts ++ said_in others }
+    ensures facts { (ignored : Option (List ℕ)) (profile : List DeviceParts) (after : AfterBadToken) (front back : List ℕ) → IsBus profile → EndsAtCut front
+        → (firsts : List FactData) × (others : List FactData) × (whole : List FactData) × AreOfPieces ignored profile after front back firsts others whole }
+{
+    each_list_has_spans();
+    one_list_of_facts();
+    some_text_is_told();
+    texts_may_be_cut_between_words();
+    spans_move();
+    spans_may_be_cut();
 }

@@ -9,8 +9,8 @@ use Rattle.pmb_keeper.specs.declared.nothing.Nothing.{Nothing}
 use Rattle.pmb_transaction.specs.Transaction.{TransactionData}
 use Rattle.pmb_unknown_start.specs.declared.start.Start.{Start}
 
--- The same for all facts of a capture: the digits after a point, what is known of PAGE and VOUT_MODE at
--- first, and the devices.
+-- What is the same for all facts of a capture: the digits after a point, what is known of PAGE and
+-- VOUT_MODE at first, and the devices.
 pub record Setting : Type 0 where
   pub digits : ℕ
   pub start : Start

@@ -4,8 +4,10 @@
 //! Its rows: `tests_numbers`, `src/means.rt`, where each law is called.
 
 ghost use Rattle.std.specs.Prelude.{ℕ, List};
+ghost use Rattle.pmb_mean.specs.Alike.{TellNumbersAlike};
 ghost use Rattle.pmb_mean.specs.Laws.{GreatestIsGreatest, LeastIsLeast, MeanIsBetween, MeanIsMean, OneMeanIsValue};
-ghost use Rattle.pmb_mean.specs.Numbers.{NumberData};
+ghost use Rattle.pmb_mean.specs.machine.History.{HistoryData, HistoryStandsAt};
+ghost use Rattle.pmb_mean.specs.Numbers.{NumberData, kept};
 
 /// The least value is that of one of them, and at most each of them.
 pub fn least_is_least()
@@ -31,4 +33,10 @@ pub fn mean_is_between()
 /// The mean of one value has the text of that value.
 pub fn one_mean_is_value()
     ensures { (digits : ℕ) (n : NumberData) → OneMeanIsValue digits n }
+{}
+
+/// A history stands at no two lists of values of which it would tell something else.
+pub fn one_history()
+    ensures { (history : HistoryData) (numbers others : List NumberData) → HistoryStandsAt history numbers
+        → HistoryStandsAt history others → TellNumbersAlike (kept numbers) (kept others) }
 {}

@@ -36,14 +36,15 @@ same_page Unpaged Unpaged = true
 abbrev pub page_keys : ℕ → List PageKey
 page_keys pages = map OnPage (range_with_len 0 pages) ++ AllPages ∷ UnknownPage ∷ Unpaged ∷ []
 
--- whether data of a command may belong to a page, by how many its device has and whether it is paged
+-- whether data of a command may belong to a page: by how many pages the device has, and whether the
+-- command is paged
 abbrev pub has_page : ℕ → Bool → PageKey → Bool
 has_page pages paged (OnPage page) = paged && nat_lt page pages
 has_page pages paged AllPages = paged
 has_page pages paged UnknownPage = paged
 has_page pages paged Unpaged = not paged
 
--- the page that a selected one is, of so many
+-- the page that PAGE selects, on a device with so many pages
 abbrev pub selected_page : ℕ → Option ℕ → PageKey
 selected_page pages None = UnknownPage
 selected_page pages (Some page) =

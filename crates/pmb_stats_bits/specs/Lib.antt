@@ -1,3 +1,4 @@
 pub mod Bits
 pub mod Standing
+pub mod Alike
 pub mod machine

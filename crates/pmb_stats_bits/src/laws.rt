@@ -1,7 +1,10 @@
 //! Laws over the definitions alone. Each function is its contract, and does nothing.
 
 ghost use Rattle.std.specs.Prelude.{◌≡◌, ℕ, ◌+◌, ◌++◌, ◌∷◌, [], List, None, true};
+ghost use Rattle.pmb_stats_bits.specs.declared.history.BitHistory.{BitHistory};
+ghost use Rattle.pmb_stats_bits.specs.Alike.{TellBitAlike};
 ghost use Rattle.pmb_stats_bits.specs.Bits.{AreClear, RegisterRead, first_time, found, gone_time, last_time, set_count};
+ghost use Rattle.pmb_stats_bits.specs.Standing.{BitStandsAt};
 
 /// The counts of reads, and of those that come after them, add up.
 pub fn counts_add_up()
@@ -28,4 +31,10 @@ pub fn bits_are_gone_after_the_last()
     ensures still { (before : List RegisterRead) (read : RegisterRead) (bit : ℕ) → found bit read ≡ true
         → gone_time (before ++ read ∷ []) bit ≡ None }
     ensures never { (reads : List RegisterRead) (bit : ℕ) → AreClear reads bit → gone_time reads bit ≡ None }
+{}
+
+/// A history stands at no two lists of reads of which it would tell something else.
+pub fn one_bit()
+    ensures { (history : BitHistory) (reads others : List RegisterRead) (bit : ℕ) → BitStandsAt history reads bit
+        → BitStandsAt history others bit → TellBitAlike reads others bit }
 {}

@@ -1,5 +1,5 @@
 //! What the reads of a status register say of its bits: how many found a bit set, when the first and
-//! the last of these came, and since when it is gone.
+//! the last of these came, and when the first read after them found it clear.
 //!
 //! A [`BitHistory`] takes one read after the other, and [`see_word`] hands a read to the histories of
 //! all bits of a register. It takes no memory, however many reads come: of their times it keeps

@@ -79,6 +79,31 @@ some_of (fact ∷ facts) some =
           (rest.0, omega (arith, rest.1))
     ]
 
+-- where some fact of one list counts, but none of the other, a count differs
+unlike : (facts others : List FactData)
+    → ((sort : Sort) → capped (count_in_all sort facts) ≡ capped (count_in_all sort others))
+    → list_any has_sort facts ≡ true → list_any has_sort others ≡ false → ⊥
+unlike facts others each some none =
+    let its = some_of facts some in
+    omega (arith, each its.0, its.1, none_of its.0 others none)
+
+pub any_alike : (facts others : List FactData)
+    → ((sort : Sort) → capped (count_in_all sort facts) ≡ capped (count_in_all sort others))
+    → list_any has_sort facts ≡ list_any has_sort others
+any_alike facts others each =
+    elim (cases_Bool (list_any has_sort facts)) [
+      | inl some ↦
+          elim (cases_Bool (list_any has_sort others)) [
+            | inl same ↦ some ∙ sym same
+            | inr none ↦ absurd (unlike facts others each some none)
+          ]
+      | inr none ↦
+          elim (cases_Bool (list_any has_sort others)) [
+            | inl some ↦ absurd (unlike others facts (λ sort. sym (each sort)) some none)
+            | inr same ↦ none ∙ sym same
+          ]
+    ]
+
 -- ---- all counts
 
 all_zero : (counts : List ℕ) → ((n : ℕ) → n < length counts → get_or counts n 0 ≡ 0)

@@ -4,4 +4,5 @@ pub mod Sums
 pub mod Faults
 pub mod Fails
 pub mod Standing
+pub mod Alike
 pub mod machine

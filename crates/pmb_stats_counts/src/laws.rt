@@ -3,9 +3,13 @@
 ghost use Rattle.std.specs.Prelude.{◌≡◌, ℕ, ◌+◌, ◌++◌, List};
 ghost use Rattle.std.specs.List.{list_any};
 ghost use Rattle.pmb_facts.specs.Fact.{FactData};
+ghost use Rattle.pmb_stats_counts.specs.declared.counts.SortCounts.{SortCounts};
 ghost use Rattle.pmb_stats_counts.specs.declared.sort.Sort.{Sort};
+ghost use Rattle.pmb_stats_counts.specs.declared.totals.Totals.{Totals};
+ghost use Rattle.pmb_stats_counts.specs.Alike.{CountAlike, TotalAlike};
 ghost use Rattle.pmb_stats_counts.specs.Counts.{AreAddressed, bad_tokens, count_in_all, count_of, count_of_none, has_come, has_sort, of_device, packets};
 ghost use Rattle.pmb_stats_counts.specs.Sort.{place};
+ghost use Rattle.pmb_stats_counts.specs.Standing.{HasCounted, TotalsStandAt};
 ghost use Rattle.pmb_stats_counts.specs.Sums.{sum_below};
 
 /// Each sort has a place of its own, by which sorts are told apart.
@@ -36,4 +40,10 @@ pub fn devices_that_came_have_counts()
 pub fn devices_make_the_whole()
     ensures { (sort : Sort) (facts : List FactData) → AreAddressed facts
         → count_in_all sort facts ≡ sum_below (λ addr. count_of addr sort facts) 128 + count_of_none sort facts }
+{}
+
+/// Counts stand at no two lists of facts of which they would tell something else.
+pub fn one_count()
+    ensures counts { (counts : SortCounts) (facts others : List FactData) → HasCounted counts facts → HasCounted counts others → CountAlike facts others }
+    ensures totals { (totals : Totals) (facts others : List FactData) → TotalsStandAt totals facts → TotalsStandAt totals others → TotalAlike facts others }
 {}

@@ -28,7 +28,7 @@ use Rattle.pmb_telling.proofs.Lines.{front_cut, split_line}
 use Rattle.pmb_telling.proofs.MetWords.{met_reads, met_whole, read_from}
 use Rattle.pmb_telling.proofs.Facts.{lines_append}
 use Rattle.pmb_telling.proofs.OpenOthers.{HasEnds, LeadsToMore, TellsOpen, facts_out, facts_told}
-use Rattle.pmb_telling.proofs.Reading.{MovesSpans, ends_told, lines_by, reads_on, under}
+use Rattle.pmb_telling.proofs.Reading.{MovesSpans, ends_told, reads_on, told_by, under}
 use Rattle.pmb_telling.proofs.Words.{solid_no_lf}
 use Rattle.pmb_json_objects.specs.Counts.{CountsData}
 use Rattle.pmb_facts.specs.Fact.{FactData}
@@ -37,7 +37,8 @@ use Rattle.pmb_scan.specs.declared.scan.Scan.{Scan}
 use Rattle.pmb_scan.specs.Reached.{EndsWith, Reached}
 use Rattle.pmb_scan.specs.Scan.{HasRead}
 use Rattle.pmb_spans.specs.Spans.{Span, Spans, moved_spans}
-use Rattle.pmb_fact_stream.specs.declared.stream.Stream.{Stream}
+use Rattle.pmb_keeper.specs.Setting.{Setting}
+use Rattle.pmb_fact_stream.specs.declared.kept_stream.KeptStream.{KeptStream}
 use Rattle.pmb_fact_stream.specs.Before.{Before}
 use Rattle.pmb_fact_stream.specs.Choice.{ChoiceData}
 use Rattle.pmb_fact_stream.specs.Others.{is_told, is_untold}
@@ -98,13 +99,15 @@ tally_of counts = record { packets = capped counts.packets; refusals = capped (c
 tally_of_is : (counts : CountsData) → IsTallyOf counts.packets (counts.refusals + counts.bad_tokens) (tally_of counts)
 tally_of_is counts = record { packets_counted = refl; refusals_counted = refl }
 
-module _ (choice : ChoiceData) (profile : List DeviceParts) (after : AfterBadToken) (bytes text : List ℕ) where
+module _ {K : Type 0} (Keeps : K → Setting → List FactData → Type 0) (choice : ChoiceData) (profile : List DeviceParts)
+    (after : AfterBadToken) (first : K) (bytes text : List ℕ) where
   -- the text is the beginning of what is written for the bytes
   abbrev pub WritesMore : Type 0
   WritesMore = (rest : List ℕ) × (tally : Tally) × WritesTold choice profile after bytes (text ++ rest) tally
 
   -- The bytes end in a bad line, and some of its facts are out.
-  ends_bad : (Holds : Before → List ℕ → List ℕ → Type 0) (behind : Behind choice profile after Holds bytes text)
+  ends_bad : (Holds : K → Before → List ℕ → List ℕ → Type 0)
+      (behind : Behind Keeps choice profile after first Holds bytes text)
       (bad : BadLine) (out left : List FactData)
       → behind.used ≡ bad.front ++ bad.line → IsBadLine choice.ignored profile behind.b bad
       → out ++ left ≡ bad_line_facts choice.ignored behind.b bad
@@ -123,12 +126,13 @@ module _ (choice : ChoiceData) (profile : List DeviceParts) (after : AfterBadTok
         said,
         tally_of counts,
         subst (λ (l : List ℕ). WritesTold choice profile after l (text ++ said) (tally_of counts)) (append-nil bytes)
-            (writes_bad_line choice profile after Holds bytes text behind [] said bad []
-            (tally_of counts) bytes_are is_bad tt (inr refl) lines_are (tally_of_is counts)),
+            (writes_bad_line choice profile Keeps after first Holds bytes text behind (λ facts. Unit {0}) [] said bad []
+            (tally_of counts) bytes_are is_bad tt (inr refl) lines_are (tally_of_is counts) tt).writes,
       )
 
-  module _ (scan : Scan) (stream : Stream)
-      (behind : Behind choice profile after (InWords choice profile scan stream) bytes text) (move : MovesSpans) where
+  module _ (scan : Scan) (now : KeptStream K)
+      (behind : Behind Keeps choice profile after first (InWords Keeps choice profile scan now) bytes text)
+      (move : MovesSpans) where
     -- They spell events, of which some were not told: these spans are theirs, and these facts are left.
     ends_read : (events : List Event) (others : List Span) → Spells behind.holds.reached.text events
         → Spans behind.holds.reached.profile events (behind.holds.reached.spans ++ others)
@@ -140,18 +144,20 @@ module _ (choice : ChoiceData) (profile : List DeviceParts) (after : AfterBadTok
         let words = behind.holds in
         let there = words.reached in
         let told = words.told.told b words.begins in
-        let same = under choice profile b scan stream behind.used behind.put words there behind.put stream told in
+        let same = under Keeps choice profile behind.keeper b scan now behind.used behind.put words there behind.put
+        now told in
         let counts = after_spans choice.ignored b.counts (there.spans ++ others) in
         let said = fact_lines choice profile left.0 ++ last_lines choice profile counts in
-        let reads = reads_on choice profile b scan stream behind.used behind.put words there events others left.0
-        behind.put said words.is_text
-        (lines_by choice profile b scan stream behind.used behind.put words there behind.put stream told)
+        let reads = reads_on Keeps choice profile behind.keeper b scan now behind.used behind.put words there events
+        others left.0 behind.put said words.is_text
+        (told_by Keeps choice profile behind.keeper b scan now behind.used behind.put words there behind.put now told
+        []).lines
         (subst (λ (l : List ℕ). Spells l events) words.is_text spells)
         (read_from choice profile b there.profile events (there.spans ++ others) move same spans) left.1 refl in (
           said,
           tally_of counts,
-          ends_told choice profile after _ bytes text said counts (tally_of counts) behind reads
-              (tally_of_is counts),
+          (ends_told Keeps choice profile after first _ (λ facts. Unit {0}) bytes text said counts (tally_of counts)
+              behind (reads.0, reads.1, reads.2) (tally_of_is counts) tt).writes,
         )
 
     -- Their last word is no token.
@@ -163,7 +169,8 @@ module _ (choice : ChoiceData) (profile : List DeviceParts) (after : AfterBadTok
         let words = behind.holds in
         let there = words.reached in
         let told = words.told.told b words.begins in
-        let same = under choice profile b scan stream behind.used behind.put words there behind.put stream told in
+        let same = under Keeps choice profile behind.keeper b scan now behind.used behind.put words there behind.put
+        now told in
         -- the bad line is the word under way, with the events before it
         let bad : BadLine = record {
           front = first.front;
@@ -195,7 +202,8 @@ module _ (choice : ChoiceData) (profile : List DeviceParts) (after : AfterBadTok
           reported = met_whole choice profile b.n there last tells;
         })
         refl
-        (lines_by choice profile b scan stream behind.used behind.put words there behind.put stream told []
+        ((told_by Keeps choice profile behind.keeper b scan now behind.used behind.put words there behind.put now told
+        []).lines
         ∙ (ap (fact_lines choice profile) (facts_told choice.ignored b there (there.text ++ []) last tells)
         ∙ ap (λ (l : List ℕ). fact_lines choice profile
         (text_facts choice.ignored b l b.ts
@@ -226,49 +234,50 @@ module _ (choice : ChoiceData) (profile : List DeviceParts) (after : AfterBadTok
         ends_in_word spells_none last bad.0 end tells bad.1
 
 -- wherever they end
-pub ends_in : (inside : EngineState) (start now : Teller) (bytes text : List ℕ) → MovesSpans → SpellsNoBadWord
+pub ends_in : {K : Type 0} (Keeps : K → Setting → List FactData → Type 0) (inside : EngineState)
+    (start now : Teller K) (bytes text : List ℕ) → MovesSpans → SpellsNoBadWord
     → ((text : List ℕ) (events : List Event) → EndedWordsSpell text events → EndsInLastWord text events)
     → ((reached : Reached) → reached.profile ≡ teller_profile start → HasRead now.scan reached
     → HasEnds (teller_choice start).ignored reached)
     → ((reached : Reached) (rest : List Event) → reached.profile ≡ teller_profile start → HasRead now.scan reached
     → LeadsToMore (teller_choice start).ignored reached rest)
-    → StandsIn inside start now bytes text → WritesMore (teller_choice start) (teller_profile start)
-    (teller_bad_words start) bytes text
+    → StandsIn Keeps inside start now bytes text → WritesMore Keeps (teller_choice start) (teller_profile start)
+    (teller_bad_words start) start.kept.keeper bytes text
 -- in words: they are tokens, or the last one is the bad word
-ends_in Words start now bytes text move spells_none last_word ends follows stands =
+ends_in Keeps Words start now bytes text move spells_none last_word ends follows stands =
     let behind = stands.behind in
     let words = behind.holds in
     let there = words.reached in
     let told = words.told.told behind.b words.begins in
-    let same = under (teller_choice start) (teller_profile start) behind.b now.scan now.stream behind.used
-    behind.put words
-    there behind.put now.stream told in
+    let same = under Keeps (teller_choice start) (teller_profile start) behind.keeper behind.b now.scan now.kept
+    behind.used behind.put words there behind.put now.kept told in
     let end = ends there same words.scans.reader in
-    ends_in_words (teller_choice start) (teller_profile start)
-    (teller_bad_words start) bytes text now.scan now.stream behind
+    ends_in_words Keeps (teller_choice start) (teller_profile start) (teller_bad_words start) start.kept.keeper bytes
+    text now.scan now.kept behind
     move spells_none end.last end.ends end.tells
     (λ rest. follows there rest same words.scans.reader) (last_word there.text there.events words.scans.lexer.ended)
 -- in a bad word: its fact is left
-ends_in BadWord start now bytes text move spells_none last_word ends follows stands =
+ends_in Keeps BadWord start now bytes text move spells_none last_word ends follows stands =
     let choice = teller_choice start in
     let profile = teller_profile start in
     let behind = stands.behind in
     let has = behind.holds.word in
     let bad = longer_line has.bad [] in
-    ends_bad choice profile (teller_bad_words start) bytes text _ behind bad (front_facts choice.ignored behind.b bad)
+    ends_bad Keeps choice profile (teller_bad_words start) start.kept.keeper bytes text _ behind bad
+    (front_facts choice.ignored behind.b bad)
     (word_fact behind.b bad ∷ [])
     (has.is_text ∙ ap (λ (l : List ℕ). has.bad.front ++ l) (sym (append-nil has.bad.line)))
     (bad_line_now choice profile behind.b has.bad has.so_far (solid_no_lf has.bad.line has.under_way)) refl
-    (has.lines [])
+    (has.told []).lines
 -- in the rest of its line: all its facts are out
-ends_in InLine start now bytes text move spells_none last_word ends follows stands =
+ends_in Keeps InLine start now bytes text move spells_none last_word ends follows stands =
     let choice = teller_choice start in
     let profile = teller_profile start in
     let behind = stands.1.behind in
     let has = behind.holds in
     let bad = longer_line has.bad [] in
-    ends_bad choice profile (teller_bad_words start) bytes text _ behind bad
+    ends_bad Keeps choice profile (teller_bad_words start) start.kept.keeper bytes text _ behind bad
     (bad_line_facts choice.ignored behind.b bad) []
     (has.is_text ∙ ap (λ (l : List ℕ). has.bad.front ++ l) (sym (append-nil has.bad.line)))
     (bad_line_now choice profile behind.b has.bad has.so_far has.in_line)
-    (append-nil (bad_line_facts choice.ignored behind.b bad)) (has.lines [] [] [] refl tt)
+    (append-nil (bad_line_facts choice.ignored behind.b bad)) (has.told [] [] [] refl tt).lines

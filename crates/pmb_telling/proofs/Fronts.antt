@@ -19,6 +19,8 @@ use Rattle.pmb_telling.proofs.OpenOthers.{HasEnds}
 use Rattle.pmb_telling.proofs.Reading.{MovesSpans, reads_so_far, under}
 use Rattle.pmb_telling.proofs.Words.{solid_no_lf}
 use Rattle.pmb_io.specs.Lines.{HasNoLf}
+use Rattle.pmb_facts.specs.Fact.{FactData}
+use Rattle.pmb_keeper.specs.Setting.{Setting}
 use Rattle.pmb_fact_stream.specs.Lines.{fact_lines}
 use Rattle.pmb_scan.specs.Reached.{Reached}
 use Rattle.pmb_scan.specs.Scan.{HasRead}
@@ -35,48 +37,49 @@ pub bad_line_now : (choice : ChoiceData) (profile : List DeviceParts) (b : Befor
 bad_line_now choice profile b bad so_far in_line =
     bad_line_is choice profile b bad [] [] [] [] so_far refl in_line tt tt
 
-pub so_far_in : (inside : EngineState) (start now : Teller) (bytes text : List ℕ) → MovesSpans
+pub so_far_in : {K : Type 0} (Keeps : K → Setting → List FactData → Type 0) (inside : EngineState)
+    (start now : Teller K) (bytes text : List ℕ) → MovesSpans
     → ((reached : Reached) → reached.profile ≡ teller_profile start → HasRead now.scan reached
     → HasEnds (teller_choice start).ignored reached)
-    → StandsIn inside start now bytes text → HasTold (teller_choice start) (teller_profile start)
+    → StandsIn Keeps inside start now bytes text → HasTold (teller_choice start) (teller_profile start)
     (teller_bad_words start) bytes text
 -- in words: the spans that have ended
-so_far_in Words start now bytes text move ends stands =
+so_far_in Keeps Words start now bytes text move ends stands =
     let behind = stands.behind in
     let words = behind.holds in
     let told = words.told.told behind.b words.begins in
-    let same = under (teller_choice start) (teller_profile start) behind.b now.scan now.stream behind.used
-    behind.put words
-    words.reached behind.put now.stream told in
+    let same = under Keeps (teller_choice start) (teller_profile start) behind.keeper behind.b now.scan now.kept
+    behind.used behind.put words words.reached behind.put now.kept told in
     let end = ends words.reached same words.scans.reader in
-    let reads = reads_so_far (teller_choice start) (teller_profile start) behind.b now.scan now.stream behind.used
-    behind.put words end.last move end.tells end.ends in
-    has_written (teller_choice start) (teller_profile start) (teller_bad_words start) _ bytes text behind [] reads.0
+    let reads = reads_so_far Keeps (teller_choice start) (teller_profile start) behind.keeper behind.b now.scan now.kept
+    behind.used behind.put words end.last move end.tells end.ends in
+    has_written (teller_choice start) (teller_profile start) Keeps (teller_bad_words start) _ _ bytes text behind []
+    reads.0
     reads.1
     reads.2
 -- in a bad word: the facts before it
-so_far_in BadWord start now bytes text move ends stands =
+so_far_in Keeps BadWord start now bytes text move ends stands =
     let choice = teller_choice start in
     let behind = stands.behind in
     let has = behind.holds.word in
     let is_bad = subst (λ (l : BadLine). IsBadLine choice.ignored (teller_profile start) behind.b l) (same_line has.bad)
     (bad_line_now choice (teller_profile start) behind.b has.bad has.so_far (solid_no_lf has.bad.line has.under_way)) in
-    has_bad_line choice (teller_profile start) (teller_bad_words start) _ bytes text behind has.bad
+    has_bad_line choice (teller_profile start) Keeps (teller_bad_words start) _ _ bytes text behind has.bad
     (front_facts choice.ignored behind.b has.bad) has.is_text is_bad (λ none. has.so_far.word)
     (inl ((refl, has.under_way, behind.holds.short refl), refl))
-    (has.lines [] ∙ ap (λ (l : BadLine). fact_lines choice (teller_profile start)
+    ((has.told []).lines ∙ ap (λ (l : BadLine). fact_lines choice (teller_profile start)
     (front_facts choice.ignored behind.b l)) (same_line has.bad))
 -- in the rest of its line: its facts too
-so_far_in InLine start now bytes text move ends stands =
+so_far_in Keeps InLine start now bytes text move ends stands =
     let choice = teller_choice start in
     let behind = stands.1.behind in
     let has = behind.holds in
     let is_bad = subst (λ (l : BadLine). IsBadLine choice.ignored (teller_profile start) behind.b l) (same_line has.bad)
     (bad_line_now choice (teller_profile start) behind.b has.bad has.so_far has.in_line) in
-    has_bad_line choice (teller_profile start) (teller_bad_words start) _ bytes text behind has.bad
+    has_bad_line choice (teller_profile start) Keeps (teller_bad_words start) _ _ bytes text behind has.bad
     (bad_line_facts choice.ignored behind.b has.bad) has.is_text is_bad (λ none. has.so_far.word)
     (inr (λ under_way. has.over has.bad.line [] (sym (append-nil has.bad.line)) under_way.1 under_way.2, refl))
-    (has.lines [] [] [] refl tt ∙ ap (λ (l : BadLine). fact_lines choice (teller_profile start)
+    ((has.told [] [] [] refl tt).lines ∙ ap (λ (l : BadLine). fact_lines choice (teller_profile start)
     (bad_line_facts choice.ignored behind.b l)) (same_line has.bad))
 
 -- ---- where more is wanted
@@ -93,10 +96,11 @@ from_first after read used bytes ends (inl none) is = is ∙ ap (λ (l : List �
 from_first after read used bytes ends (inr goes) is =
     let differ : End ≡ Continue = sym ends ∙ goes in absurd (cc differ)
 
-pub opens_in : (inside : EngineState) (start now : Teller) (bytes text : List ℕ) → StandsIn inside start now bytes text
+pub opens_in : {K : Type 0} (Keeps : K → Setting → List FactData → Type 0) (inside : EngineState) (start now : Teller K)
+    (bytes text : List ℕ) → StandsIn Keeps inside start now bytes text
     → IsOpenCapture (teller_bad_words start) bytes
 -- in words: they begin a text of events
-opens_in Words start now bytes text stands =
+opens_in Keeps Words start now bytes text stands =
     let behind = stands.behind in
     let words = behind.holds in
     is_open (teller_bad_words start) bytes (λ ends.
@@ -104,7 +108,7 @@ opens_in Words start now bytes text stands =
     (words.is_text ∙ sym (from_first (teller_bad_words start) behind.b.read behind.used bytes ends behind.first
     behind.bytes_are)) words.scans.lexer.begins))
 -- in a bad word: fewer than 32 of its bytes came
-opens_in BadWord start now bytes text stands =
+opens_in Keeps BadWord start now bytes text stands =
     let behind = stands.behind in
     let has = behind.holds.word in
     let bad = has.bad in
@@ -123,5 +127,5 @@ opens_in BadWord start now bytes text stands =
       short = behind.holds.short refl;
     }))
 -- in the rest of a line only where reading goes on, so this isn't asked
-opens_in InLine start now bytes text stands = is_open (teller_bad_words start) bytes
+opens_in Keeps InLine start now bytes text stands = is_open (teller_bad_words start) bytes
     (λ ends. let differ : End ≡ Continue = sym ends ∙ stands.0 in absurd (cc differ))

@@ -12,6 +12,8 @@ use Rattle.pmb_io.specs.declared.tally.Tally.{Tally}
 use Rattle.pmb_scan.specs.declared.after_bad_token.AfterBadToken.{AfterBadToken}
 use Rattle.pmb_scan.specs.declared.after_bad_token.AfterBadToken.TheVariants.{End, Continue}
 use Rattle.pmb_telling.specs.SoFar.{HasTold, IsOutOf, SoFarFrom, StaysBad}
+use Rattle.pmb_keeper.specs.Setting.{Setting}
+use Rattle.pmb_telling.specs.Kept.{WritesKept}
 use Rattle.pmb_telling.specs.Text.{BadLine, FactsFrom, GoesOn, IsBadLine, IsBehindLine, WritesTold, bad_line_facts}
 use Rattle.pmb_telling.specs.Text.{behind_line}
 use Rattle.pmb_telling.specs.machine.Standing.{Behind, IsBadSoFar, LeadsTo, longer_line}
@@ -117,18 +119,21 @@ module _ (choice : ChoiceData) (profile : List DeviceParts) where
   last_line after b bad rest is_bad behind nowhere =
       (rest, [], refl, behind, is_bad, refl, goes_nowhere after rest _ _ nowhere (refl, refl, refl))
 
-  module _ (after : AfterBadToken) (Holds : Before → List ℕ → List ℕ → Type 0) (bytes text : List ℕ)
-      (behind : Behind choice profile after Holds bytes text) where
-    -- what is written after there is written in all
-    pub writes_told : (tail said : List ℕ) (more : List BadLine) (others : List FactData) (counts : CountsData)
+  module _ {K : Type 0} (Keeps : K → Setting → List FactData → Type 0) (after : AfterBadToken) (first : K)
+      (Holds : K → Before → List ℕ → List ℕ → Type 0) (bytes text : List ℕ)
+      (behind : Behind Keeps choice profile after first Holds bytes text) where
+    -- what is written after there is written in all, and this holds of all facts
+    pub writes_told : (All : List FactData → Type 0) (tail said : List ℕ) (more : List BadLine)
+        (others : List FactData) (counts : CountsData)
         (tally : Tally)
         → FactsFrom choice.ignored profile after behind.b (behind.used ++ tail) more others counts
         → behind.put ++ said ≡ fact_lines choice profile others ++ last_lines choice profile counts
-        → IsTallyOf counts.packets (counts.refusals + counts.bad_tokens) tally
-        → WritesTold choice profile after (bytes ++ tail) (text ++ said) tally
-    writes_told tail said more others counts tally from said_are tallied =
+        → IsTallyOf counts.packets (counts.refusals + counts.bad_tokens) tally → All (behind.facts ++ others)
+        → WritesKept All choice profile after (bytes ++ tail) (text ++ said) tally
+    writes_told All tail said more others counts tally from said_are tallied kept =
         let lines = fact_lines choice profile in
-        let last = last_lines choice profile counts in record {
+        let last = last_lines choice profile counts in
+        let writes : WritesTold choice profile after (bytes ++ tail) (text ++ said) tally = record {
           bad = behind.bads ++ more;
           facts = behind.facts ++ others;
           counts = counts;
@@ -142,7 +147,7 @@ module _ (choice : ChoiceData) (profile : List DeviceParts) where
               ∙ (sym (append_assoc (lines behind.facts) (lines others) last)
               ∙ ap (λ (l : List ℕ). l ++ last) (sym (lines_append choice profile behind.facts others)))));
           tallied = tallied;
-        }
+        } in record { writes = writes; kept = kept }
 
     -- and what is written so far
     pub has_written : (more : List BadLine) (others : List FactData)
@@ -159,7 +164,8 @@ module _ (choice : ChoiceData) (profile : List DeviceParts) where
     }
 
     -- the last bad line ends all
-    pub writes_bad_line : (tail said : List ℕ) (bad : BadLine) (rest : List ℕ) (tally : Tally)
+    pub writes_bad_line : (All : List FactData → Type 0) (tail said : List ℕ) (bad : BadLine) (rest : List ℕ)
+        (tally : Tally)
         → behind.used ++ tail ≡ bad.front ++ (bad.line ++ rest) → IsBadLine choice.ignored profile behind.b bad
         → IsBehindLine rest → (after ≡ End) ⊎ (rest ≡ [])
         → behind.put ++ said ≡ fact_lines choice profile (bad_line_facts choice.ignored behind.b bad)
@@ -167,16 +173,18 @@ module _ (choice : ChoiceData) (profile : List DeviceParts) where
         → IsTallyOf (behind_line choice.ignored behind.b bad).counts.packets
         ((behind_line choice.ignored behind.b bad).counts.refusals
         + (behind_line choice.ignored behind.b bad).counts.bad_tokens) tally
-        → WritesTold choice profile after (bytes ++ tail) (text ++ said) tally
-    writes_bad_line tail said bad rest tally bytes_are is_bad is_behind nowhere said_are tallied =
+        → All (behind.facts ++ bad_line_facts choice.ignored behind.b bad)
+        → WritesKept All choice profile after (bytes ++ tail) (text ++ said) tally
+    writes_bad_line All tail said bad rest tally bytes_are is_bad is_behind nowhere said_are tallied kept =
         let own = bad_line_facts choice.ignored behind.b bad in
         let counts = (behind_line choice.ignored behind.b bad).counts in
-        writes_told tail said (bad ∷ []) (own ++ []) counts tally
+        writes_told All tail said (bad ∷ []) (own ++ []) counts tally
         (subst (λ (l : List ℕ). FactsFrom choice.ignored profile after behind.b l (bad ∷ []) (own ++ []) counts)
         (append_assoc bad.front bad.line rest ∙ sym bytes_are)
         (last_line after behind.b bad rest is_bad is_behind nowhere))
         (said_are ∙ ap (λ (l : List FactData). fact_lines choice profile l ++ last_lines choice profile counts)
         (sym (append-nil own))) tallied
+        (subst (λ (l : List FactData). All (behind.facts ++ l)) (sym (append-nil own)) kept)
 
     -- so far a bad line, whose fact is out or not
     pub has_bad_line : (bad : BadLine) (facts : List FactData) → behind.used ≡ bad.front ++ bad.line

@@ -13,7 +13,7 @@ use Rattle.pmb_io.specs.Count.{capped}
 use Rattle.pmb_io.specs.Lines.{HasNoLf}
 use Rattle.pmb_telling.specs.Text.{BadLine, bad_line_facts, behind_line, front_facts, text_facts}
 use Rattle.pmb_telling.specs.Text.{word_fact}
-use Rattle.pmb_telling.specs.machine.Standing.{HasBadWord, InBadLine, IsBadSoFar, behind_bytes, behind_fact}
+use Rattle.pmb_telling.specs.machine.Standing.{HasBadWord, InBadLine, IsBadSoFar, KeptIn, behind_bytes, behind_fact}
 use Rattle.pmb_telling.specs.machine.Standing.{last_word_lines, longer_line, open_word_fact}
 use Rattle.pmb_telling.proofs.Lines.{behind_front}
 use Rattle.pmb_telling.proofs.Facts.{counts_append, counts_moved, ends_tell_none, lines_append, told_moved}
@@ -29,12 +29,16 @@ use Rattle.pmb_places.specs.declared.places.Place.{Place}
 use Rattle.pmb_places.specs.Places.{place_behind, place_of_last_word}
 use Rattle.pmb_scan.specs.Reached.{EndsWith, Reached}
 use Rattle.pmb_spans.specs.Spans.{Span, Spans, SpansFrom, moved_spans}
+use Rattle.pmb_keeper.specs.Setting.{Setting}
+use Rattle.pmb_fact_stream.specs.declared.kept_stream.KeptStream.{KeptStream}
 use Rattle.pmb_fact_stream.specs.declared.stream.Stream.{Stream}
 use Rattle.pmb_fact_stream.specs.Before.{Before, with_bytes, with_reached}
 use Rattle.pmb_fact_stream.specs.Choice.{ChoiceData}
 use Rattle.pmb_fact_stream.specs.Others.{is_told}
 use Rattle.pmb_fact_stream.specs.Spans.{after_open, after_spans, transactions_in}
-use Rattle.pmb_fact_stream.specs.Stream.{AreLinesOf, KeepsOpenTime, StreamKnows, stream_time}
+use Rattle.pmb_fact_stream.specs.Keeping.{IsTold, KeepsOn}
+use Rattle.pmb_fact_stream.specs.Stream.{HoldsOf, KeepsOpenTime, StreamKnows, kept_by, stream_time}
+use Rattle.pmb_fact_stream.proofs.Keeping.{keeps_both}
 use Rattle.pmb_fact_stream.specs.UnderWay.{open_time}
 use Rattle.pmb_transaction.specs.Transaction.{TransactionData}
 
@@ -119,6 +123,14 @@ module _ (choice : ChoiceData) (profile : List DeviceParts) where
       ∙ (ap (λ (l : List ℕ). fact_lines choice profile front ++ l)
       (said_are ∙ ap (λ (o : FactData). fact_lines choice profile (o ∷ [])) is)
       ∙ sym (lines_append choice profile front (word_fact b (longer_line bad more) ∷ [])))
+
+  -- and is kept
+  pub keeps_with_word : (A B C : List FactData → Type 0) (b : Before) (bad : BadLine) (more : List ℕ) (word : FactData)
+      → KeepsOn A B (front_facts choice.ignored b (longer_line bad more)) → KeepsOn B C (word ∷ [])
+      → word ≡ word_fact b (longer_line bad more) → KeepsOn A C (bad_line_facts choice.ignored b (longer_line bad more))
+  keeps_with_word A B C b bad more word front own is =
+      let facts = front_facts choice.ignored b (longer_line bad more) in
+      subst (λ (o : FactData). KeepsOn A C (facts ++ o ∷ [])) is (keeps_both A B C facts (word ∷ []) front own)
 
   -- and the counts after it
   pub lines_with_counts : (b : Before) (bad : BadLine) (more put said : List ℕ) (counts : CountsData)
@@ -234,30 +246,33 @@ module _ (choice : ChoiceData) (profile : List DeviceParts) where
       keeps [] ∙ ap (λ (l : List ℕ). open_time l reached.events) (append-nil reached.text ∙ split)
       ∙ stay front own reached.events spells
 
-  pub met_lines : (b : Before) (reached : Reached) (front text more : List ℕ) (last : List Span)
-      → TellsOpen choice.ignored reached last
-      → reached.text ≡ front ++ open_word reached.text → AreLinesOf choice profile b reached text
-      → text ≡ fact_lines choice profile
-      (front_facts choice.ignored b (longer_line (met b reached front last) more))
-  met_lines b reached front text more last tells split lines =
+  -- what holds of the facts that were told holds of those before the word
+  pub met_told : (Holds : List FactData → Type 0) (b : Before) (reached : Reached) (front more : List ℕ)
+      (last : List Span) → TellsOpen choice.ignored reached last
+      → reached.text ≡ front ++ open_word reached.text → HoldsOf choice b reached Holds
+      → Holds (front_facts choice.ignored b (longer_line (met b reached front last) more))
+  met_told Holds b reached front more last tells split holds =
       let spans = moved_spans b.n (reached.spans ++ filter (is_told choice.ignored) last) in
-      lines more
-      ∙ ap (fact_lines choice profile) (facts_told choice.ignored b reached (reached.text ++ more) last tells)
-      ∙ ap (λ (l : List ℕ). fact_lines choice profile (text_facts choice.ignored b l b.ts spans))
-      (ap (λ (l : List ℕ). l ++ more) split ∙ append_assoc front (open_word reached.text) more)
+      subst Holds
+      (facts_told choice.ignored b reached (reached.text ++ more) last tells
+      ∙ ap (λ (l : List ℕ). text_facts choice.ignored b l b.ts spans)
+      (ap (λ (l : List ℕ). l ++ more) split ∙ append_assoc front (open_word reached.text) more)) (holds more)
 
-  pub has_met : (b : Before) (reached : Reached) (front at_hand text : List ℕ) (last : List Span) (stream : Stream)
+  pub has_met : {K : Type 0} (Keeps : K → Setting → List FactData → Type 0) (keeper : K) (b : Before)
+      (reached : Reached)
+      (front at_hand text : List ℕ) (last : List Span) (now : KeptStream K)
       → ((p : List DeviceParts) (n m : ℕ) (events : List Event) (spans : List Span) → SpansFrom p m events spans
       → SpansFrom p (n + m) events (moved_spans n spans)) → TimesStay
       → reached.profile ≡ profile → reached.text ≡ front ++ open_word reached.text → front_word (open_word reached.text)
       ≡ open_word reached.text
       → ((more : List ℕ) → OpenWordIsBad reached.text (reached.text ++ (at_hand ++ more)) reached.events)
       → TellsOpen choice.ignored reached last → EndsWith reached last
-      → StreamKnows (with_reached choice.ignored b reached) stream → KeepsOpenTime stream reached
-      → AreLinesOf choice profile b reached text
-      → HasBadWord choice profile at_hand stream b reached.text text
-  has_met b reached front at_hand text last stream move stay under split solid bad tells end knows keeps
-      lines = record {
+      → StreamKnows (with_reached choice.ignored b reached) now.stream → KeepsOpenTime now.stream reached
+      → HoldsOf choice b reached
+      (IsTold choice profile (KeptIn Keeps choice profile keeper) (KeptIn Keeps choice profile now.keeper) text)
+      → HasBadWord Keeps choice profile at_hand now keeper b reached.text text
+  has_met Keeps keeper b reached front at_hand text last now move stay under split solid bad tells end knows keeps
+      told = record {
         bad = met b reached front last;
         so_far = record {
           word = λ more. met_word reached front (at_hand ++ more) split (bad more);
@@ -267,9 +282,10 @@ module _ (choice : ChoiceData) (profile : List DeviceParts) where
         };
         is_text = split;
         under_way = solid;
-        knows = met_knows b reached front last stream tells end split knows;
-        time = met_time reached front (at_hand ++ []) stream stay split (bad []) keeps;
-        lines = λ more. met_lines b reached front text more last tells split lines;
+        knows = met_knows b reached front last now.stream tells end split knows;
+        time = met_time reached front (at_hand ++ []) now.stream stay split (bad []) keeps;
+        told = λ more. met_told (IsTold choice profile (KeptIn Keeps choice profile keeper)
+            (KeptIn Keeps choice profile now.keeper) text) b reached front more last tells split told;
       }
 
   -- ---- it goes on
@@ -288,12 +304,14 @@ module _ (choice : ChoiceData) (profile : List DeviceParts) where
     reported = so_far.reported;
   }
 
-  abbrev pub word_goes_on : (b : Before) (word rest at_hand used put : List ℕ) (old new : Stream)
+  abbrev pub word_goes_on : {K : Type 0} (Keeps : K → Setting → List FactData → Type 0) (keeper : K) (b : Before)
+      (word rest at_hand used put : List ℕ) (old : KeptStream K) (new : Stream)
       → at_hand ≡ word ++ rest → front_word word ≡ word
-      → ((b : Before) → StreamKnows b old → StreamKnows (with_bytes b word) new)
-      → stream_time new ≡ stream_time old
-      → HasBadWord choice profile at_hand old b used put → HasBadWord choice profile rest new b (used ++ word) put
-  word_goes_on b word rest at_hand used put old new split solid takes timed has =
+      → ((b : Before) → StreamKnows b old.stream → StreamKnows (with_bytes b word) new)
+      → stream_time new ≡ stream_time old.stream
+      → HasBadWord Keeps choice profile at_hand old keeper b used put
+      → HasBadWord Keeps choice profile rest (kept_by new old.keeper) keeper b (used ++ word) put
+  word_goes_on Keeps keeper b word rest at_hand used put old new split solid takes timed has =
       let bad = has.bad in record {
         bad = longer_line bad word;
         so_far = longer_so_far b bad word rest at_hand split has.so_far;
@@ -309,10 +327,9 @@ module _ (choice : ChoiceData) (profile : List DeviceParts) where
             }) new)
             (append_assoc (b.read ++ bad.front) bad.line word) (takes (behind_bytes choice.ignored b bad) has.knows);
         time = timed ∙ has.time;
-        lines = λ more. has.lines (word ++ more)
-            ∙ ap (λ (l : List ℕ). fact_lines choice profile
-            (text_facts choice.ignored b (bad.front ++ l) b.ts bad.spans))
-            (sym (append_assoc bad.line word more));
+        told = λ more. subst (λ (l : List ℕ). IsTold choice profile (KeptIn Keeps choice profile keeper)
+            (KeptIn Keeps choice profile old.keeper) put (text_facts choice.ignored b (bad.front ++ l) b.ts bad.spans))
+            (sym (append_assoc bad.line word more)) (has.told (word ++ more));
       }
 
   -- what is told so far
@@ -324,10 +341,12 @@ module _ (choice : ChoiceData) (profile : List DeviceParts) where
 
   -- ---- its line goes on
 
-  pub line_goes_on : (b : Before) (line at_hand used put : List ℕ) (old new : Stream) → at_hand ≡ line → HasNoLf line
-      → ((b : Before) → StreamKnows b old → StreamKnows (with_bytes b line) new)
-      → InBadLine choice profile at_hand old b used put → InBadLine choice profile [] new b (used ++ line) put
-  line_goes_on b line at_hand used put old new all no_lf takes has =
+  pub line_goes_on : {K : Type 0} (Keeps : K → Setting → List FactData → Type 0) (keeper : K) (b : Before)
+      (line at_hand used put : List ℕ) (old : KeptStream K) (new : Stream) → at_hand ≡ line → HasNoLf line
+      → ((b : Before) → StreamKnows b old.stream → StreamKnows (with_bytes b line) new)
+      → InBadLine Keeps choice profile at_hand old keeper b used put
+      → InBadLine Keeps choice profile [] (kept_by new old.keeper) keeper b (used ++ line) put
+  line_goes_on Keeps keeper b line at_hand used put old new all no_lf takes has =
       -- the line is longer by these bytes, and nothing more goes out of it
       let bad = has.bad in record {
         bad = longer_line bad line;
@@ -345,9 +364,9 @@ module _ (choice : ChoiceData) (profile : List DeviceParts) where
                   (behind_fact choice.ignored b bad).counts;
             }) new)
             (append_assoc (b.read ++ bad.front) bad.line line) (takes (behind_fact choice.ignored b bad) has.knows);
-        lines = λ more later rest split behind. has.lines more (line ++ later) rest
-            (ap (λ (l : List ℕ). l ++ more) all ∙ (ap (λ (l : List ℕ). line ++ l) split
-            ∙ sym (append_assoc line later rest))) behind
-            ∙ ap (λ (l : List ℕ). fact_lines choice profile
-            (bad_line_facts choice.ignored b (record bad { line = l }))) (sym (append_assoc bad.line line later));
+        told = λ more later rest split behind. subst (λ (l : List ℕ). IsTold choice profile
+            (KeptIn Keeps choice profile keeper) (KeptIn Keeps choice profile old.keeper) put
+            (bad_line_facts choice.ignored b (record bad { line = l }))) (sym (append_assoc bad.line line later))
+            (has.told more (line ++ later) rest (ap (λ (l : List ℕ). l ++ more) all
+            ∙ (ap (λ (l : List ℕ). line ++ l) split ∙ sym (append_assoc line later rest))) behind);
       }

@@ -1,4 +1,5 @@
 pub mod Text
 pub mod SoFar
 pub mod Tell
+pub mod Kept
 pub mod machine

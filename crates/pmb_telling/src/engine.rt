@@ -1,12 +1,12 @@
 //! From the text of a capture to the lines of its facts, in pieces.
 //!
-//! Between two bad words a scan reads on, and the stream is told. A bad word's bytes are taken
+//! Between two bad words a scan reads on, and the stream is told, which hands each fact to the keeper. A bad word's bytes are taken
 //! until 32 have come or it has ended: then its line goes out. What is left of its line is taken
 //! and dropped, and a new scan begins after it.
 //!
 //! Its rows: `tests_tasks`, `src/captures.rt`; `tests/rows/json_objects.txt`, `log.txt`.
 
-ghost use Rattle.std.specs.Prelude.{◌≡◌, ◌⊎◌, ◌≢◌, ◌++◌, ◌≤◌, ◌<◌, ℕ, List, [], OnOk, IfOk, length};
+ghost use Rattle.std.specs.Prelude.{◌≡◌, ◌⊎◌, ◌≢◌, ◌++◌, ◌∷◌, ◌≤◌, ◌<◌, ℕ, List, [], OnOk, IfOk, length};
 ghost use Rattle.pmb_bus.specs.Text.{front_word, open_word};
 ghost use Rattle.pmb_command.specs.Bus.{IsBus};
 ghost use Rattle.pmb_io.specs.Calls.{WriterTells};
@@ -14,18 +14,19 @@ ghost use Rattle.pmb_io.specs.Engines.{PutsOut};
 ghost use Rattle.pmb_io.specs.Outgoing.{PutsText};
 ghost use Rattle.pmb_telling.specs.Tell.{WritesToldFront};
 ghost use Rattle.pmb_telling.specs.declared.engine.EngineState.TheVariants as inside;
-ghost use Rattle.pmb_telling.specs.machine.Standing.{HasEnded, HasPutOut, HasStopped, IsLess, StandsBehindBadWord, StandsInBadLine, StandsInBadWord, StandsInWords, TakesLine, teller_bad_words, teller_choice, teller_profile, teller_tally, last_word_lines, stops_for_good};
+ghost use Rattle.pmb_telling.specs.machine.Standing.{HasEnded, HasPutOut, HasStopped, IsLess, StandsBehindBadWord, StandsInBadLine, StandsInBadWord, StandsInWords, TakesLine, teller_bad_words, teller_choice, teller_profile, teller_tally, last_word_lines, open_word_fact, stops_for_good};
 ghost use Rattle.pmb_json_objects.specs.Counts.{after_bad_token};
 ghost use Rattle.pmb_fact_stream.specs.Before.{Before};
 ghost use Rattle.pmb_fact_stream.specs.Choice.{choice_data};
-ghost use Rattle.pmb_fact_stream.specs.Stream.{StreamKnows, stream_choice, stream_profile, stream_time};
+ghost use Rattle.pmb_fact_stream.specs.Stream.{KeepsFacts, StreamKnows, stream_choice, stream_profile, stream_time};
 
 use crate::word_end::{behind, is_over, line_bytes, word_bytes};
 use crate::word_laws::bad_words_stand_there;
 use pmb_bus::laws::{ended_words_lead_on, spelled_has_no_bad_word, texts_may_be_cut_between_words};
 use pmb_fact_stream::laws::{open_times_stay, others_are_told};
-use pmb_fact_stream::{Choice, Stream};
+use pmb_fact_stream::{Choice, KeptStream, Stream};
 use pmb_io::{Engine, Flow, RunFault, Sink, Tally, Waiting};
+use pmb_keeper::Keeper;
 use pmb_reader::laws::some_packet_is_read;
 use pmb_scan::laws::scans_lead_on;
 use pmb_scan::{AfterBadToken, PieceEnd, Scan};
@@ -53,27 +54,29 @@ enum PieceRest<'b> {
     Bytes(&'b [u8]),
 }
 
-/// From the text of a capture to the lines of its facts.
+/// From the text of a capture to the lines of its facts, and to a keeper.
 #[derive(Drop)]
-pub(crate) struct Teller<'p> {
+pub(crate) struct Teller<'p, K> {
     profile: &'p Profile,
     bad_words: AfterBadToken,
     scan: Scan<'p>,
-    stream: Stream<'p>,
+    kept: KeptStream<'p, K>,
     inside: EngineState,
 }
 
-impl<'p> Teller<'p> {
+impl<'p, K: Keeper> Teller<'p, K> {
     /// Nothing was given yet.
     pub(crate) fn new(
         profile: &'p Profile,
         choice: Choice<'p>,
         bad_words: AfterBadToken,
-    ) -> Teller<'p>
+        keeper: K,
+    ) -> Teller<'p, K>
         ensures profile { teller_profile result ≡ profile.now }
         ensures choice { teller_choice result ≡ choice_data choice.entry }
         ensures bad_words { teller_bad_words result ≡ bad_words }
-        ensures begins { HasPutOut result result [] [] }
+        ensures keeper { result.kept.keeper ≡ keeper }
+        ensures begins { HasPutOut K.Keeps result result [] [] }
     {
         let Choice {
             digits,
@@ -86,16 +89,19 @@ impl<'p> Teller<'p> {
             profile,
             bad_words,
             scan: Scan::new(profile),
-            stream: Stream::new(
-                profile,
-                Choice {
-                    digits,
-                    start,
-                    devices,
-                    ignored,
-                    telling,
-                },
-            ),
+            kept: KeptStream {
+                stream: Stream::new(
+                    profile,
+                    Choice {
+                        digits,
+                        start,
+                        devices,
+                        ignored,
+                        telling,
+                    },
+                ),
+                keeper,
+            },
             inside: EngineState::Words,
         }
     }
@@ -104,7 +110,14 @@ impl<'p> Teller<'p> {
     pub(crate) fn tally(&self) -> Tally
         ensures { result ≡ teller_tally self.now }
     {
-        self.stream.tally()
+        self.kept.stream.tally()
+    }
+
+    /// What is kept of the facts.
+    pub(crate) fn into_keeper(self) -> K
+        ensures { result ≡ self.entry.kept.keeper }
+    {
+        self.kept.keeper
     }
 
     /// Takes bytes up to the end of a bad line.
@@ -114,8 +127,8 @@ impl<'p> Teller<'p> {
         waiting: &mut Waiting,
         writer: &mut W,
     ) -> Result<PieceRest<'b>, RunFault>
-        ensures takes { (start : Teller) (given text : List ℕ) → HasPutOut start self.old given text
-            → IfOk result (λ left. PutsOut (λ more. TakesLine start self.new given bytes.now left (text ++ more))
+        ensures takes { (start : Teller K) (given text : List ℕ) → HasPutOut K.Keeps start self.old given text
+            → IfOk result (λ left. PutsOut (λ more. TakesLine K.Keeps start self.new given bytes.now left (text ++ more))
             (W.told writer.old).held waiting.old.items (W.told writer.new).held waiting.new.items) }
         ensures less { IfOk result (λ left. IsLess left (length bytes.now)) }
         ensures failed { WriterTells (W.told writer.old) (W.told writer.new) result }
@@ -134,15 +147,15 @@ impl<'p> Teller<'p> {
         waiting: &mut Waiting,
         writer: &mut W,
     ) -> Result<PieceRest<'b>, RunFault>
-        ensures takes { (start : Teller) (given text : List ℕ) → self.old.inside ≡ inside.Words → StandsInWords start self.old given text
-            → IfOk result (λ left. PutsOut (λ more. TakesLine start self.new given bytes.now left (text ++ more))
+        ensures takes { (start : Teller K) (given text : List ℕ) → self.old.inside ≡ inside.Words → StandsInWords K.Keeps start self.old given text
+            → IfOk result (λ left. PutsOut (λ more. TakesLine K.Keeps start self.new given bytes.now left (text ++ more))
             (W.told writer.old).held waiting.old.items (W.told writer.new).held waiting.new.items) }
         ensures less { IfOk result (λ left. IsLess left (length bytes.now)) }
         ensures failed { WriterTells (W.told writer.old) (W.told writer.new) result }
     {
         match self
             .scan
-            .take_words(bytes, &mut self.stream, waiting, writer)?
+            .take_words(bytes, &mut self.kept, waiting, writer)?
         {
             PieceEnd::All => Ok(PieceRest::Nothing),
             PieceEnd::Fault { used, .. } => {
@@ -165,17 +178,17 @@ impl<'p> Teller<'p> {
         waiting: &mut Waiting,
         writer: &mut W,
     ) -> Result<PieceRest<'b>, RunFault>
-        ensures takes { (start : Teller) (given text : List ℕ) → self.old.inside ≡ inside.BadWord → StandsInBadWord bytes.now start self.old given text
-            → IfOk result (λ left. PutsOut (λ more. TakesLine start self.new given bytes.now left (text ++ more))
+        ensures takes { (start : Teller K) (given text : List ℕ) → self.old.inside ≡ inside.BadWord → StandsInBadWord K.Keeps bytes.now start self.old given text
+            → IfOk result (λ left. PutsOut (λ more. TakesLine K.Keeps start self.new given bytes.now left (text ++ more))
             (W.told writer.old).held waiting.old.items (W.told writer.new).held waiting.new.items) }
         ensures less { IfOk result (λ left. IsLess left (length bytes.now)) }
         ensures failed { WriterTells (W.told writer.old) (W.told writer.new) result }
     {
         bad_words_stand_there();
-        let count = word_bytes(bytes, self.stream.word_length());
-        self.stream.take_text(&bytes[..count]);
+        let count = word_bytes(bytes, self.kept.stream.word_length());
+        self.kept.stream.take_text(&bytes[..count]);
         let rest = behind(bytes, count);
-        if !is_over(rest, self.stream.word_length()) {
+        if !is_over(rest, self.kept.stream.word_length()) {
             return Ok(PieceRest::Nothing);
         }
         self.end_bad_word(rest, waiting, writer)
@@ -189,8 +202,8 @@ impl<'p> Teller<'p> {
         waiting: &mut Waiting,
         writer: &mut W,
     ) -> Result<PieceRest<'b>, RunFault>
-        ensures takes { (start : Teller) (given text : List ℕ) → StandsBehindBadWord rest.now start self.old given text
-            → IfOk result (λ left. PutsOut (λ more. TakesLine start self.new given rest.now left (text ++ more))
+        ensures takes { (start : Teller K) (given text : List ℕ) → StandsBehindBadWord K.Keeps rest.now start self.old given text
+            → IfOk result (λ left. PutsOut (λ more. TakesLine K.Keeps start self.new given rest.now left (text ++ more))
             (W.told writer.old).held waiting.old.items (W.told writer.new).held waiting.new.items) }
         ensures less { IfOk result (λ left. IsLess left (length rest.now)) }
         ensures failed { WriterTells (W.told writer.old) (W.told writer.new) result }
@@ -202,7 +215,8 @@ impl<'p> Teller<'p> {
                 Ok(PieceRest::Stop)
             }
             AfterBadToken::Continue => {
-                self.stream.put_bad_word(waiting, writer)?;
+                let kept = &mut self.kept;
+                kept.stream.put_bad_word(&mut kept.keeper, waiting, writer)?;
                 self.inside = EngineState::BadLine;
                 Ok(self.drop_line(rest))
             }
@@ -211,19 +225,19 @@ impl<'p> Teller<'p> {
 
     /// Drops what is left of a bad line. After its LF reading begins anew.
     fn drop_line<'b>(&mut self, bytes: &'b [u8]) -> PieceRest<'b>
-        ensures takes { (start : Teller) (given text : List ℕ) → self.old.inside ≡ inside.BadLine → StandsInBadLine bytes.now start self.old given text
-            → TakesLine start self.new given bytes.now result text }
+        ensures takes { (start : Teller K) (given text : List ℕ) → self.old.inside ≡ inside.BadLine → StandsInBadLine K.Keeps bytes.now start self.old given text
+            → TakesLine K.Keeps start self.new given bytes.now result text }
         ensures less { IsLess result (length bytes.now) }
     {
         match line_bytes(bytes) {
             None => {
-                self.stream.take_text(bytes);
+                self.kept.stream.take_text(bytes);
                 PieceRest::Nothing
             }
             Some(count) => {
                 texts_may_be_cut_between_words();
-                self.stream.take_text(&bytes[..count + 1]);
-                self.stream.begin_anew();
+                self.kept.stream.take_text(&bytes[..count + 1]);
+                self.kept.stream.begin_anew();
                 self.scan = Scan::new(self.profile);
                 self.inside = EngineState::Words;
                 PieceRest::Bytes(behind(bytes, count + 1))
@@ -231,25 +245,28 @@ impl<'p> Teller<'p> {
         }
     }
 
-    /// Puts out the line of the word under way, which is no token, and the last lines.
+    /// Puts out the fact of the word under way, which is no token, and the last lines.
     fn put_last_word<W: Sink>(
         &mut self,
         waiting: &mut Waiting,
         writer: &mut W,
     ) -> Result<(), RunFault>
-        ensures puts { (b : Before) → StreamKnows b self.old.stream
-            → OnOk result (PutsText (W.told writer.old).held waiting.old.items (W.told writer.new).held waiting.new.items (last_word_lines (teller_choice self.old) (stream_profile self.old.stream) (stream_time self.old.stream) b)) }
-        ensures knows { (b : Before) → StreamKnows b self.old.stream → OnOk result (StreamKnows (record b { counts = after_bad_token b.counts }) self.new.stream) }
+        ensures puts { (b : Before) → StreamKnows b self.old.kept.stream
+            → OnOk result (PutsText (W.told writer.old).held waiting.old.items (W.told writer.new).held waiting.new.items (last_word_lines (teller_choice self.old) (stream_profile self.old.kept.stream) (stream_time self.old.kept.stream) b)) }
+        ensures kept { (b : Before) → StreamKnows b self.old.kept.stream
+            → OnOk result (KeepsFacts K.Keeps self.old.kept.stream self.old.kept.keeper self.new.kept.keeper (open_word_fact (stream_time self.old.kept.stream) b ∷ [])) }
+        ensures knows { (b : Before) → StreamKnows b self.old.kept.stream → OnOk result (StreamKnows (record b { counts = after_bad_token b.counts }) self.new.kept.stream) }
         ensures failed { WriterTells (W.told writer.old) (W.told writer.new) result }
     {
-        self.stream.put_bad_word(waiting, writer)?;
-        self.stream.put_counts(waiting, writer)
+        let kept = &mut self.kept;
+        kept.stream.put_bad_word(&mut kept.keeper, waiting, writer)?;
+        kept.stream.put_counts(waiting, writer)
     }
 
     /// The end of the words.
     fn end_words<W: Sink>(&mut self, waiting: &mut Waiting, writer: &mut W) -> Result<(), RunFault>
-        ensures ends { (start : Teller) (bytes text : List ℕ) → StandsInWords start self.old bytes text
-            → OnOk result (PutsOut (λ more. HasEnded start self.new bytes (text ++ more))
+        ensures ends { (start : Teller K) (bytes text : List ℕ) → StandsInWords K.Keeps start self.old bytes text
+            → OnOk result (PutsOut (λ more. HasEnded K.Keeps start self.new bytes (text ++ more))
             (W.told writer.old).held waiting.old.items (W.told writer.new).held waiting.new.items) }
         ensures failed { WriterTells (W.told writer.old) (W.told writer.new) result }
     {
@@ -257,8 +274,12 @@ impl<'p> Teller<'p> {
         bad_words_stand_there();
         open_times_stay();
         others_are_told();
-        match self.scan.take_end(&mut self.stream, waiting, writer)? {
-            None => self.stream.put_end(self.scan.truncation(), waiting, writer),
+        match self.scan.take_end(&mut self.kept, waiting, writer)? {
+            None => {
+                let kept = &mut self.kept;
+                let end = self.scan.truncation();
+                kept.stream.put_end(&mut kept.keeper, end, waiting, writer)
+            }
             Some(_) => {
                 // As in `take_words`.
                 let _ = self.scan.truncation();
@@ -268,12 +289,12 @@ impl<'p> Teller<'p> {
     }
 }
 
-impl<'p> Engine for Teller<'p> {
-    ghost Stands = { HasPutOut };
+impl<'p, K: Keeper> Engine for Teller<'p, K> {
+    ghost Stands = { HasPutOut K.Keeps };
 
-    ghost Stops = { HasStopped };
+    ghost Stops = { HasStopped K.Keeps };
 
-    ghost Ends = { HasEnded };
+    ghost Ends = { HasEnded K.Keeps };
 
     fn take<W: Sink>(
         &mut self,
@@ -296,16 +317,16 @@ impl<'p> Engine for Teller<'p> {
         match self.inside {
             EngineState::Words => self.end_words(waiting, writer),
             EngineState::BadWord => self.put_last_word(waiting, writer),
-            EngineState::BadLine => self.stream.put_counts(waiting, writer),
+            EngineState::BadLine => self.kept.stream.put_counts(waiting, writer),
         }
     }
 
-    ghost stops_for_good = { stops_for_good };
+    ghost stops_for_good = { stops_for_good K.Keeps };
 }
 
 /// What was put out so far is a beginning of what is written for the same bytes, if they end there.
-pub(crate) fn fronts_are_written()
-    ensures { (start now : Teller) (bytes text : List ℕ) → IsBus (teller_profile start) → HasPutOut start now bytes text
+pub(crate) fn fronts_are_written<K: Keeper>()
+    ensures { (start now : Teller K) (bytes text : List ℕ) → IsBus (teller_profile start) → HasPutOut K.Keeps start now bytes text
         → WritesToldFront (teller_choice start) (teller_profile start) (teller_bad_words start) bytes text }
 {
     spans_move();

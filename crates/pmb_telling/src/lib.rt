@@ -5,7 +5,8 @@
 //! [`Telling`](pmb_fact_stream::Telling) of its choice has it. A line tells the time that a comment told
 //! before its packet. A packet to an address that speaks no PMBus ([`ignored`](pmb_fact_stream::Choice))
 //! has one line, which is written as soon as the address has come. After a word that is no token reading
-//! ends, or continues with the next line ([`AfterBadToken`]).
+//! ends, or continues with the next line ([`AfterBadToken`]). [`tell_kept`] hands each fact to a
+//! [`Keeper`](pmb_keeper::Keeper) too.
 //!
 //! ```rust
 //! let choice = Choice {
@@ -30,4 +31,4 @@ mod word_end;
 mod word_laws;
 
 pub use pmb_scan::AfterBadToken;
-pub use run::tell;
+pub use run::{tell, tell_kept};

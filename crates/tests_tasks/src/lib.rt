@@ -16,4 +16,6 @@ mod profiles;
 #[cfg(test)]
 mod program;
 #[cfg(test)]
+mod stats;
+#[cfg(test)]
 mod whole;

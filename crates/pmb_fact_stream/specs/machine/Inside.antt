@@ -7,7 +7,9 @@ use Rattle.pmb_canonical.specs.Inside.{AreInside}
 use Rattle.pmb_reader.specs.Reader.{Open}
 use Rattle.pmb_scan.specs.Reached.{Reached}
 use Rattle.pmb_transaction.specs.Transaction.{TransactionData, Write, Read, Call, Refused, Alert, NoAlert}
-use Rattle.pmb_fact_stream.specs.declared.stream.Stream.{Stream}
+use Rattle.pmb_facts.specs.Fact.{FactData}
+use Rattle.pmb_keeper.specs.Setting.{Setting}
+use Rattle.pmb_fact_stream.specs.declared.kept_stream.KeptStream.{KeptStream}
 use Rattle.pmb_fact_stream.specs.Stream.{StreamStands}
 
 -- one START says all of its packet's place: no part of a group comes before another leg
@@ -29,18 +31,18 @@ behind_inside reached n inside =
           Open n inside;
     }
 
--- Some of them were taken, and the others stand in front, with STOP.
-pub record WalksOn (start now : Stream) (reached : Reached) (put : List ℕ) (n : ℕ) (inside : List Event)
-    (rest : List ℕ) : Type 0 where
-  pub front : List Event
-  pub back : List Event
-  pub split : inside ≡ front ++ back
-  pub is_inside : AreInside back
-  pub is_rest : rest ≡ canonical_text (back ++ Stop ∷ [])
-  pub stands : StreamStands start now (behind_inside reached n front) put
+module _ {K : Type 0} (Keeps : K → Setting → List FactData → Type 0) (start now : KeptStream K) (reached : Reached)
+    (put : List ℕ) (n : ℕ) (inside : List Event) (rest : List ℕ) where
+  -- Some of them were taken, and the others stand in front, with STOP.
+  pub record WalksOn : Type 0 where
+    pub front : List Event
+    pub back : List Event
+    pub split : inside ≡ front ++ back
+    pub is_inside : AreInside back
+    pub is_rest : rest ≡ canonical_text (back ++ Stop ∷ [])
+    pub stands : StreamStands Keeps start now (behind_inside reached n front) put
 
--- All were taken, and STOP is left.
-pub record TakenInside (start now : Stream) (reached : Reached) (put : List ℕ) (n : ℕ) (inside : List Event)
-    (rest : List ℕ) : Type 0 where
-  pub is_stop : rest ≡ canonical_text (Stop ∷ [])
-  pub stands : StreamStands start now (behind_inside reached n inside) put
+  -- All were taken, and STOP is left.
+  pub record TakenInside : Type 0 where
+    pub is_stop : rest ≡ canonical_text (Stop ∷ [])
+    pub stands : StreamStands Keeps start now (behind_inside reached n inside) put

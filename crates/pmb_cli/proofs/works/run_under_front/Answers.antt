@@ -1,4 +1,4 @@
-use Rattle.std.proofs.Common.{◌≡◌, ◌∙◌, ℕ, List, Err, Ok, inl, inr, sym, ap, subst, refl}
+use Rattle.std.proofs.Common.{◌≡◌, ◌∙◌, ℕ, true, List, Err, Ok, inl, inr, sym, ap, subst, refl}
 use Rattle.pmb_io.specs.Runs.{AsTool, Ran}
 use Rattle.pmb_keys.specs.declared.fault.FaultKind.TheVariants.{OutOfMemory}
 use Rattle.pmb_io.specs.declared.fault.ToolFault.{ToolFault}
@@ -7,8 +7,8 @@ use Rattle.pmb_args.specs.ExitStatus.{EndedWell}
 use Rattle.pmb_args.specs.declared.exit_status.ExitStatus.TheVariants.{IoFailed}
 use Rattle.pmb_table.specs.Profile.{SaysBus}
 use Rattle.pmb_run.specs.Lines.{OrNoMemory}
-use Rattle.pmb_args.specs.Asked.{Run, wanted_of}
-use Rattle.pmb_cli.specs.Works.{DoneUnderFront, working}
+use Rattle.pmb_args.specs.Asked.{wanted_of}
+use Rattle.pmb_cli.specs.Works.{DoneUnderFront, takes_memory, working}
 use Rattle.pmb_cli.proofs.UnderFront.{done_after_mark, done_without_mark, part_after_mark, part_of_profile}
 use Rattle.pmb_cli.proofs.Statuses.{does_as, does_none, fault_failed, is_read, is_too_long, no_failed_read}
 use Rattle.pmb_cli.proofs.Statuses.{no_memory_is_not_bad, nothing_told, refused_ended, refused_tells}
@@ -29,7 +29,7 @@ returns-in-Ok-from_toml g c =
     let of_front = subst (λ (text : List ℕ). SaysBus text (Ok bus)) c.profile.ensures says in
     let marked = sym c.has_capture.ensures ∙ c.if-has_capture.true in
     let worked = subst (λ (rest : List ℕ). OrNoMemory
-    ((wanted_of c.args.work.now ≡ Run) × (c.do_work.new.reader ≡ c.front.new.reader)
+    ((takes_memory (wanted_of c.args.work.now) ≡ true) × (c.do_work.new.reader ≡ c.front.new.reader)
     × (c.do_work.new.out ≡ c.args.out.now))
     (AsTool (Ran g.R.Source.told g.W.Sink.told (working (wanted_of c.args.work.now) bus) rest
     (c.front.new.reader, c.args.out.now) (c.do_work.new.reader, c.do_work.new.out))) c.do_work.result) c.rest.ensures

@@ -15,10 +15,11 @@ use Rattle.pmb_times.specs.Times.{time_at}
 use Rattle.pmb_json.specs.Objects.{objects_of}
 use Rattle.pmb_json.specs.Pieces.{CanBeCutBehind, EachSaysNoMore, OtherTimes, SameTimes, TellsNoMore, Timing, all_known}
 use Rattle.pmb_telling.specs.Text.{BadLine, FactsFrom}
-use Rattle.pmb_json.proofs.Cut.{cut}
+use Rattle.pmb_json.proofs.Cut.{CutLaws, FirstPiece, cut, firsts_in}
+use Rattle.pmb_json.proofs.NoMore.{no_more_across}
 use Rattle.pmb_json.proofs.PieceMembers.{Tells}
 use Rattle.pmb_json.proofs.PieceTimes.{as_many_words}
-use Rattle.pmb_json.proofs.Pieces.{Agree}
+use Rattle.pmb_json.proofs.Pieces.{Agree, FactsSayNoMore}
 use Rattle.pmb_json.proofs.laws.texts_of_pieces_say_no_more.Goals as goal
 
 pub returns : goal.returns
@@ -44,15 +45,31 @@ returns c =
         c.all_that_is_known_is_the_context.ensures.mode profile (before ++ ts) addr,
       );
     } in
-    let both = cut c.objects_are_of_facts.ensures timing choice profile front first agree
-    (λ n k events spans reads. c.spans_move.ensures profile n k events spans reads)
-    c.texts_may_be_cut_between_words.ensures.spelled c.texts_may_be_cut_between_words.ensures.bad
-    (c.spans_may_be_cut.ensures.joined profile)
-    (c.spans_may_be_cut.ensures.whole profile first.events first.spans first.stop first.reads) tells after bad
-    back facts x rest in
+    let piece : FirstPiece profile front = record {
+      cut = record {
+        events = first.events;
+        spells = first.spells;
+        stop = first.stop;
+        between = first.between;
+      };
+      spans = first.spans;
+      reads = first.reads;
+    } in
+    let laws : CutLaws profile = record {
+      spans_move = λ n k events spans reads. c.spans_move.ensures profile n k events spans reads;
+      spelled = c.texts_may_be_cut_between_words.ensures.spelled;
+      bad_word = c.texts_may_be_cut_between_words.ensures.bad;
+      joined = c.spans_may_be_cut.ensures.joined profile;
+      whole = c.spans_may_be_cut.ensures.whole profile;
+    } in
+    let both = cut choice.ignored timing profile laws front piece
+    (FactsSayNoMore timing profile choice (all_known choice))
+    (no_more_across c.objects_are_of_facts.ensures timing choice profile (length first.events) before agree) tells after
+    bad back facts x rest in
+    let firsts = firsts_in choice.ignored first.spans both.text in
     let same = c.one_list_of_facts.ensures choice.ignored profile after (front ++ back) lines both.bad whole
-    (both.firsts ++ both.others) y both.counts bus all both.from_first in
-    (both.firsts, both.others, same.0, both.no_more) in
+    (firsts ++ both.others) y both.counts bus all both.from_first in
+    (firsts, both.others, same.0, both.beside) in
     record {
       values = λ choice profile after front back bad lines facts whole x y bus late first rest all.
           said OtherTimes choice profile after front back bad lines facts whole x y bus late first (λ rest k. inl refl)

@@ -11,7 +11,7 @@ use Rattle.pmb_scan.specs.Scan.{HasRead}
 use Rattle.pmb_telling.proofs.engine.fronts_are_written.Goals as goal
 
 pub returns : goal.returns
-returns c start now bytes text bus stands =
+returns g c start now bytes text bus stands =
     let laws = c.scans_lead_on.ensures in
     let choice = teller_choice start in
     let profile = teller_profile start in
@@ -35,10 +35,11 @@ returns c start now bytes text bus stands =
     (λ n events at. c.some_packet_is_read.ensures reached.profile now.scan.reader n events
     (subst (λ (s : Standing). ReaderStandsAt reached.profile now.scan.reader s) at read.stands))
     (laws.follows now.scan reached rest accepted read) in
-    let more = ends_in now.inside start now bytes text c.spans_move.ensures c.spelled_has_no_bad_word.ensures
+    let more = ends_in g.K.Keeper.Keeps now.inside start now bytes text c.spans_move.ensures
+    c.spelled_has_no_bad_word.ensures
     c.ended_words_lead_on.ensures ends follows stands in record {
       rest = more.0;
       tally = more.1;
-      so_far = so_far_in now.inside start now bytes text c.spans_move.ensures ends stands;
+      so_far = so_far_in g.K.Keeper.Keeps now.inside start now bytes text c.spans_move.ensures ends stands;
       writes = more.2;
     }

@@ -1,19 +1,7 @@
--- What the loop over pieces says of a `Teller`, in the words of `tell`.
-use Rattle.std.proofs.Common.{Err}
-use Rattle.pmb_io.proofs.RunLemmas.{tool_ran_into}
-use Rattle.pmb_telling.proofs.Running.{tell_failed, tell_ran}
+-- With a keeper that keeps nothing.
+use Rattle.pmb_telling.proofs.Running.{tool_told}
 use Rattle.pmb_telling.proofs.run.tell.Goals as goal
 
-pub returns-in-Ok : goal.returns-in-Ok
-returns-in-Ok g c =
-    let began = c.new-engine.ensures in
-    tell_ran g.R.Source.told g.W.Sink.told c.new-engine.result c.each_piece.new.engine _ _ _ began.choice began.profile
-    began.bad_words _ _ _ c.tally.result c.tally.ensures c.in-Ok.ensures
-
-pub returns-in-Err : goal.returns-in-Err
-returns-in-Err g c =
-    let began = c.new-engine.ensures in
-    tool_ran_into g.R.Source.told g.W.Sink.told _ _ _ _ (Err c.from.result) c.in-Err.fault c.from.ensures
-    (tell_failed g.R.Source.told g.W.Sink.told c.new-engine.result c.each_piece.new.engine _ _ _ began.choice
-    began.profile began.bad_words _ _ _ c.in-Err.fault c.accepted_bus.ensures c.fronts_are_written.ensures
-    c.in-Err.ensures)
+pub returns : goal.returns
+returns g c =
+    tool_told g.R.Source.told g.W.Sink.told _ _ _ _ _ _ _ _ c.tell_kept-told.ensures

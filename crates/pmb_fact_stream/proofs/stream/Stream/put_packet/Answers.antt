@@ -15,9 +15,9 @@ returns-in_ok-put_parts-in-Refused-clause-puts g c some known =
     let stream = c.args.self.now in
     let refused = c.in-Refused in
     on_ok_weaker c.put_at-in-Refused.result (λ puts.
-    puts_as stream _ (λ b. kept_facts b.ts (stream_time stream) stream.begun.items
+    puts_as g.K.Keeper.Keeps stream _ _ _ (λ b. kept_facts b.ts (stream_time stream) stream.begun.items
     (transaction_data c.args.transaction.now)) _ _ _ _
-    (λ b.
+    (λ b knows.
     refused_kept b.ts (stream_time stream) stream.begun.items refused.parts.items
     c.as_slice-in-Refused.result.now
     refused.sent.items c.as_slice-in-Refused-2.result.now c.len-in-Refused.result c.len-in-Refused-2.result
@@ -26,7 +26,8 @@ returns-in_ok-put_parts-in-Refused-clause-puts g c some known =
     c.as_slice-in-Refused-2.ensures.value
     ∙ ap (λ (t : Transaction). kept_facts b.ts (stream_time stream) stream.begun.items (transaction_data t))
     (sym refused.is))
-    (puts_both stream _ _ _ _ _ _ _ _ (c.in_ok-put_parts-in-Refused.ensures.puts some known) puts))
+    (puts_both g.K.Keeper.Keeps stream _ _ _ _ _ _ _ _ _ _ _ (c.in_ok-put_parts-in-Refused.ensures.puts some known)
+    puts))
     (c.put_at-in-Refused.ensures.puts some (fact.Refused (c.len-in-Refused.result + 1) refused.addr
     c.as_slice-in-Refused-2.result.now refused.at_read) known refl)
 
@@ -35,9 +36,9 @@ returns-in-Alert-clause-puts g c some known =
     let stream = c.args.self.now in
     let alert = c.in-Alert in
     on_ok_weaker c.put_at-in-Alert.result (λ puts.
-    puts_as stream _ (λ b. kept_facts b.ts (stream_time stream) stream.begun.items
+    puts_as g.K.Keeper.Keeps stream _ _ _ (λ b. kept_facts b.ts (stream_time stream) stream.begun.items
     (transaction_data c.args.transaction.now)) _ _ _ _
-    (λ b. ap (λ (t : Transaction). kept_facts b.ts (stream_time stream) stream.begun.items (transaction_data t))
+    (λ b knows. ap (λ (t : Transaction). kept_facts b.ts (stream_time stream) stream.begun.items (transaction_data t))
     (sym alert.is)) puts)
     (c.put_at-in-Alert.ensures.puts some (fact.Alert (record { byte = alert.byte; pec = alert.pec })) known refl)
 
@@ -45,9 +46,9 @@ pub returns-in-NoAlert-clause-puts : goal.returns-in-NoAlert-clause-puts
 returns-in-NoAlert-clause-puts g c some known =
     let stream = c.args.self.now in
     on_ok_weaker c.put_at-in-NoAlert.result (λ puts.
-    puts_as stream _ (λ b. kept_facts b.ts (stream_time stream) stream.begun.items
+    puts_as g.K.Keeper.Keeps stream _ _ _ (λ b. kept_facts b.ts (stream_time stream) stream.begun.items
     (transaction_data c.args.transaction.now)) _ _ _ _
-    (λ b. ap (λ (t : Transaction). kept_facts b.ts (stream_time stream) stream.begun.items (transaction_data t))
+    (λ b knows. ap (λ (t : Transaction). kept_facts b.ts (stream_time stream) stream.begun.items (transaction_data t))
     (sym c.in-NoAlert.is)) puts)
     (c.put_at-in-NoAlert.ensures.puts some fact.NoAlert known refl)
 
@@ -56,9 +57,9 @@ returns-in-Read-clause-puts g c some known =
     let stream = c.args.self.now in
     let read = c.in-Read in
     on_ok_weaker c.put_at.result (λ puts.
-    puts_as stream _ (λ b. kept_facts b.ts (stream_time stream) stream.begun.items
+    puts_as g.K.Keeper.Keeps stream _ _ _ (λ b. kept_facts b.ts (stream_time stream) stream.begun.items
     (transaction_data c.args.transaction.now)) _ _ _ _
-    (λ b. ap (λ (bytes : List ℕ). kept_facts b.ts (stream_time stream) stream.begun.items
+    (λ b knows. ap (λ (bytes : List ℕ). kept_facts b.ts (stream_time stream) stream.begun.items
     (Read (record { addr = read.addr; code = read.code; reply = bytes; pec = read.pec })))
     c.as_slice-in-Read.ensures.value
     ∙ ap (λ (t : Transaction). kept_facts b.ts (stream_time stream) stream.begun.items
@@ -76,9 +77,9 @@ returns-in-Call-clause-puts g c some known =
     let stream = c.args.self.now in
     let call = c.in-Call in
     on_ok_weaker c.put_at-in-Call.result (λ puts.
-    puts_as stream _ (λ b. kept_facts b.ts (stream_time stream) stream.begun.items
+    puts_as g.K.Keeper.Keeps stream _ _ _ (λ b. kept_facts b.ts (stream_time stream) stream.begun.items
     (transaction_data c.args.transaction.now)) _ _ _ _
-    (λ b. ap (λ (sent : List ℕ). kept_facts b.ts (stream_time stream) stream.begun.items
+    (λ b knows. ap (λ (sent : List ℕ). kept_facts b.ts (stream_time stream) stream.begun.items
     (Call (record {
       addr = call.addr;
       code = call.code;

@@ -3,8 +3,9 @@ use Rattle.pmb_telling.proofs.Reading.{first_behind, words_begin}
 use Rattle.pmb_telling.proofs.engine.Teller.new.Goals as goal
 
 pub returns-clause-begins : goal.returns-clause-begins
-returns-clause-begins c = record {
+returns-clause-begins g c = record {
   made = record { choice = refl; profile = refl; reads = c.new-2.ensures.profile; bad_words = refl };
-  behind = first_behind _ _ _ _ (words_begin _ _ _ _ _ refl c.new-2.ensures.profile c.new-2.ensures.begins
+  behind = first_behind g.K.Keeper.Keeps _ _ _ _ _
+      (words_begin g.K.Keeper.Keeps _ _ _ _ _ _ refl c.new-2.ensures.profile c.new-2.ensures.begins
       c.new.ensures);
 }

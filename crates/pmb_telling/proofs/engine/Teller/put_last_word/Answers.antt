@@ -16,8 +16,8 @@ returns-clause-puts g c b knows =
     let said = c.in_ok-put_bad_word.ensures in
     let counts = after_bad_token b.counts in
     let choice = teller_choice c.args.self.now in
-    let profile = stream_profile c.args.self.now.stream in
-    let word = open_word_fact (stream_time c.args.self.now.stream) b in
+    let profile = stream_profile c.args.self.now.kept.stream in
+    let word = open_word_fact (stream_time c.args.self.now.kept.stream) b in
     on_ok_weaker c.put_counts.result (λ last.
     puts_both _ _ _ _ _ _ (fact_lines choice profile (word ∷ [])) (last_lines choice profile counts) _
     (said.puts b knows)
@@ -29,3 +29,9 @@ returns-clause-puts g c b knows =
     (last_lines k (stream_profile c.put_bad_word.new.self) counts)) said.same.choice last))
     refl)
     (c.put_counts.ensures.puts (record b { counts = counts }) (said.knows b knows))
+
+pub returns-clause-kept : goal.returns-clause-kept
+returns-clause-kept g c b knows =
+    let said = c.in_ok-put_bad_word.ensures in
+    on_ok_weaker c.put_counts.result (λ last. said.kept b knows)
+    (c.put_counts.ensures.puts (record b { counts = after_bad_token b.counts }) (said.knows b knows))

@@ -6,6 +6,7 @@ use Rattle.pmb_telling.specs.declared.engine.Teller.{Teller}
 use Rattle.pmb_telling.specs.machine.Standing.{Behind, BehindBadWord, StandsIn, behind_bytes, teller_bad_words}
 use Rattle.pmb_telling.specs.machine.Standing.{teller_choice}
 use Rattle.pmb_telling.specs.machine.Standing.{teller_profile}
+use Rattle.pmb_fact_stream.specs.Stream.{kept_by}
 use Rattle.pmb_telling.proofs.Steps.{behind_taken, goes_on, is_behind, made_on, waits}
 use Rattle.pmb_telling.proofs.Taking.{line_then, puts_none}
 use Rattle.pmb_io.proofs.Writing.{writes_nothing}
@@ -20,7 +21,8 @@ returns-then-not-is_over-clause-takes g c start given text is stands =
     let old = c.args.self.now in
     let bytes = c.args.bytes.now in
     let count = c.word_bytes-count.result in
-    let new : Teller = record old { stream = c.take_text.new.self } in
+    let stream = c.take_text.new.self in
+    let new : Teller g.row.K.Denot = record old { kept = kept_by stream old.kept.keeper } in
     let behind = stands.behind in
     let has = behind.holds.word in
     let laws = c.bad_words_stand_there.ensures in
@@ -30,15 +32,16 @@ returns-then-not-is_over-clause-takes g c start given text is stands =
     let split : bytes ≡ word ++ rest = sym (take-append-drop count bytes)
     ∙ ap (λ (l : List ℕ). word ++ l) (sym c.behind-rest.ensures.rest) in
     let over = c.if-not-is_over.ensures in
-    let later = goes_on choice profile laws.opened behind.b behind.between bytes word rest behind.used behind.put
-    old.stream new.stream split c.word_bytes-count.ensures.word taken.knows taken.time has in
-    puts_none (λ t. StandsIn new.inside start new (given ++ bytes) t) _ _ text
-    (subst (λ (i : EngineState). StandsIn i start new (given ++ bytes) text) (sym is)
+    let later = goes_on g.K.Keeper.Keeps choice profile laws.opened behind.keeper behind.b behind.between bytes word
+    rest
+    behind.used behind.put old.kept stream split c.word_bytes-count.ensures.word taken.knows taken.time has in
+    puts_none (λ t. StandsIn g.K.Keeper.Keeps new.inside start new (given ++ bytes) t) _ _ text
+    (subst (λ (i : EngineState). StandsIn g.K.Keeper.Keeps i start new (given ++ bytes) text) (sym is)
     (record {
       made = made_on start old new stands.made refl refl taken.same;
-      behind = behind_taken choice profile (teller_bad_words start) _ _ given text bytes behind
-          (waits choice profile laws.opened behind.b behind.between bytes word rest behind.used behind.put old.stream
-          new.stream split c.word_bytes-count.ensures.word taken.knows taken.time has over.0
+      behind = behind_taken g.K.Keeper.Keeps choice profile (teller_bad_words start) _ _ _ given text bytes behind
+          (waits g.K.Keeper.Keeps choice profile laws.opened behind.keeper behind.b behind.between bytes word rest
+          behind.used behind.put old.kept stream split c.word_bytes-count.ensures.word taken.knows taken.time has over.0
           (omega (
             arith,
             over.1,
@@ -55,7 +58,8 @@ returns-clause-takes g c start given text is stands =
     let old = c.args.self.now in
     let bytes = c.args.bytes.now in
     let count = c.word_bytes-count.result in
-    let new : Teller = record old { stream = c.take_text.new.self } in
+    let stream = c.take_text.new.self in
+    let new : Teller g.row.K.Denot = record old { kept = kept_by stream old.kept.keeper } in
     let behind = stands.behind in
     let has = behind.holds.word in
     let laws = c.bad_words_stand_there.ensures in
@@ -65,8 +69,9 @@ returns-clause-takes g c start given text is stands =
     let split : bytes ≡ word ++ rest = sym (take-append-drop count bytes)
     ∙ ap (λ (l : List ℕ). word ++ l) (sym c.behind-rest.ensures.rest) in
     let solid = c.word_bytes-count.ensures.word in
-    let later = goes_on choice profile laws.opened behind.b behind.between bytes word rest behind.used behind.put
-    old.stream new.stream split solid taken.knows taken.time has in
+    let later = goes_on g.K.Keeper.Keeps choice profile laws.opened behind.keeper behind.b behind.between bytes word
+    rest
+    behind.used behind.put old.kept stream split solid taken.knows taken.time has in
     let had = c.word_length.ensures.kept (behind_bytes choice.ignored behind.b has.bad) has.knows in
     let has_now = c.word_length-2.ensures.kept (behind_bytes choice.ignored behind.b later.bad) later.knows in
     let counted : count ≡ length word = sym (length-take-le count bytes c.word_bytes-count.ensures.within) in
@@ -77,13 +82,15 @@ returns-clause-takes g c start given text is stands =
     ⊎ (32 ≤ length (take 32 (open_word (behind_bytes choice.ignored behind.b has.bad).read)) + n)) counted
     (subst (λ (n : ℕ). (front_word (drop count bytes) ≡ []) ⊎ (32 ≤ n + count)) had c.word_bytes-count.ensures.over)) in
     let over = subst (λ (n : ℕ). ((rest ≡ []) → ⊥) ⊎ (32 ≤ n)) has_now c.if-not-is_over.ensures in
-    line_then c.end_bad_word.result start _ given word rest bytes text [] _ _ _ _ _ _ split (writes_nothing _ _)
+    line_then g.K.Keeper.Keeps c.end_bad_word.result start _ given word rest bytes text [] _ _ _ _ _ _ split
+    (writes_nothing _ _)
     (c.end_bad_word.ensures.takes start (given ++ word) (text ++ [])
     (record {
       made = made_on start old new stands.made refl refl taken.same;
-      behind = subst (λ (t : List ℕ). Behind choice profile (teller_bad_words start)
-          (BehindBadWord choice profile rest new.stream) (given ++ word) t) (sym (append-nil text))
-          (behind_taken choice profile (teller_bad_words start) _ _ given text word behind
-          (is_behind choice profile laws.opened behind.b behind.between bytes word rest behind.used behind.put
-          old.stream new.stream split solid taken.knows taken.time has stops over));
+      behind = subst (λ (t : List ℕ). Behind g.K.Keeper.Keeps choice profile (teller_bad_words start)
+          start.kept.keeper (BehindBadWord g.K.Keeper.Keeps choice profile rest new.kept) (given ++ word) t)
+          (sym (append-nil text))
+          (behind_taken g.K.Keeper.Keeps choice profile (teller_bad_words start) _ _ _ given text word behind
+          (is_behind g.K.Keeper.Keeps choice profile laws.opened behind.keeper behind.b behind.between bytes word rest
+          behind.used behind.put old.kept stream split solid taken.knows taken.time has stops over));
     }))

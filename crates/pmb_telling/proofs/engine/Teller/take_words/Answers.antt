@@ -10,7 +10,7 @@ use Rattle.pmb_telling.proofs.Reading.{made_told, words_on, words_to_bad}
 use Rattle.pmb_telling.proofs.Steps.{behind_more}
 use Rattle.pmb_telling.proofs.Taking.{line_then}
 use Rattle.pmb_scan.specs.Scan.{TakesPiece, end_spans}
-use Rattle.pmb_fact_stream.specs.Stream.{StreamStands}
+use Rattle.pmb_fact_stream.specs.Stream.{StreamStands, kept_by}
 use Rattle.pmb_telling.proofs.engine.Teller.take_words.Goals as goal
 
 -- all of the bytes are used
@@ -22,21 +22,26 @@ returns-in-All-clause-takes g c start given text is stands =
     let bytes = c.args.bytes.now in
     let behind = stands.behind in
     let words = behind.holds in
-    let new : Teller = record old { scan = c.take_words.new.self; stream = c.take_words.new.visitor } in
-    let taken = subst (λ taken. PutsOut (λ more. TakesPiece (StreamStands words.begun c.take_words.new.visitor)
+    let new : Teller g.row.K.Denot = record old { scan = c.take_words.new.self; kept = c.take_words.new.visitor } in
+    let taken = subst (λ taken. PutsOut (λ more. TakesPiece
+    (StreamStands g.K.Keeper.Keeps (kept_by words.begun behind.keeper) c.take_words.new.visitor)
     words.reached bytes taken c.take_words.new.self (behind.put ++ more))
     (g.W.Sink.told c.args.writer.now).held c.args.waiting.now.items (g.W.Sink.told c.take_words.new.writer).held
     c.take_words.new.waiting.items) c.in-All.is
-    (c.in_ok-take_words.ensures.takes words.begun words.reached behind.put words.scans words.told) in record {
+    (c.in_ok-take_words.ensures.takes (kept_by words.begun behind.keeper) words.reached behind.put words.scans
+    words.told) in record {
       text = taken.text;
       writes = taken.writes;
-      holds = subst (λ (i : EngineState). StandsIn i start new (given ++ bytes) (text ++ taken.text)) (sym is)
+      holds = subst (λ (i : EngineState). StandsIn g.K.Keeper.Keeps i start new (given ++ bytes) (text ++ taken.text))
+          (sym is)
           (record {
             made = made_told start old new words.begun stands.made refl refl words.same_choice words.same_profile
                 (taken.holds.visited.told behind.b words.begins).same;
-            behind = behind_more choice profile (teller_bad_words start) _ _ given text bytes taken.text behind
-                (words_on choice profile behind.b old.scan old.stream behind.used behind.put words bytes taken.text
-                new.scan new.stream taken.holds);
+            behind = behind_more g.K.Keeper.Keeps choice profile (teller_bad_words start) _ _ _ given text bytes
+                taken.text behind
+                (words_on g.K.Keeper.Keeps choice profile behind.keeper behind.b old.scan old.kept behind.used
+                behind.put words bytes taken.text
+                new.scan new.kept taken.holds);
           });
     }
 
@@ -51,17 +56,19 @@ returns-in-Fault-clause-takes g c start given text is stands =
     let behind = stands.behind in
     let words = behind.holds in
     let laws = c.bad_words_stand_there.ensures in
-    let new : Teller = record old {
+    let new : Teller g.row.K.Denot = record old {
       scan = c.take_words.new.self;
-      stream = c.take_words.new.visitor;
+      kept = c.take_words.new.visitor;
       inside =
           inside.BadWord;
     } in
-    let taken = subst (λ taken. PutsOut (λ more. TakesPiece (StreamStands words.begun c.take_words.new.visitor)
+    let taken = subst (λ taken. PutsOut (λ more. TakesPiece
+    (StreamStands g.K.Keeper.Keeps (kept_by words.begun behind.keeper) c.take_words.new.visitor)
     words.reached bytes taken c.take_words.new.self (behind.put ++ more))
     (g.W.Sink.told c.args.writer.now).held c.args.waiting.now.items (g.W.Sink.told c.take_words.new.writer).held
     c.take_words.new.waiting.items) c.in-Fault.is
-    (c.in_ok-take_words.ensures.takes words.begun words.reached behind.put words.scans words.told) in
+    (c.in_ok-take_words.ensures.takes (kept_by words.begun behind.keeper) words.reached behind.put words.scans
+    words.told) in
     let stops = taken.holds in
     let last = end_spans stops.there.standing c.truncation.result in
     let end = c.truncation.ensures.ends stops.there stops.reads in
@@ -75,19 +82,24 @@ returns-in-Fault-clause-takes g c start given text is stands =
     (λ n front. c.truncation.ensures.none stops.there n front stops.reads) end in
     let split : bytes ≡ take count bytes ++ c.behind.result.now = sym (take-append-drop count bytes)
     ∙ ap (λ (l : List ℕ). take count bytes ++ l) (sym c.behind.ensures.rest) in
-    let word = words_to_bad choice profile behind.b old.scan old.stream behind.used behind.put words bytes taken.text
-    count c.in-Fault.fault new.scan new.stream last c.spans_move.ensures c.open_times_stay.ensures laws.begun
+    let word = words_to_bad g.K.Keeper.Keeps choice profile behind.keeper behind.b old.scan old.kept behind.used
+    behind.put words bytes taken.text
+    count c.in-Fault.fault new.scan new.kept last c.spans_move.ensures c.open_times_stay.ensures laws.begun
     laws.under_way stops tells end in
     let made = made_told start old new words.begun stands.made refl refl words.same_choice words.same_profile
     (stops.visited.told behind.b words.begins).same in
-    let standing : StandsInBadWord (drop count bytes) start new (given ++ take count bytes) (text ++ taken.text) =
+    let standing : StandsInBadWord g.K.Keeper.Keeps (drop count bytes) start new (given ++ take count bytes)
+    (text ++ taken.text) =
     record {
       made = made;
-      behind = behind_more choice profile (teller_bad_words start) _
-          (InBadWord choice profile (drop count bytes) new.stream) given text (take count bytes) taken.text behind word;
+      behind = behind_more g.K.Keeper.Keeps choice profile (teller_bad_words start) _ _
+          (InBadWord g.K.Keeper.Keeps choice profile (drop count bytes) new.kept) given text (take count bytes)
+          taken.text behind word;
     } in
-    line_then c.take_bad_word.result start _ given (take count bytes) c.behind.result.now bytes text taken.text _ _ _ _
+    line_then g.K.Keeper.Keeps c.take_bad_word.result start _ given (take count bytes) c.behind.result.now bytes text
+    taken.text _ _ _ _
     _ _ split taken.writes
     (c.take_bad_word.ensures.takes start (given ++ take count bytes) (text ++ taken.text) refl
-    (subst (λ (l : List ℕ). StandsInBadWord l start new (given ++ take count bytes) (text ++ taken.text))
+    (subst (λ (l : List ℕ). StandsInBadWord g.K.Keeper.Keeps l start new (given ++ take count bytes)
+    (text ++ taken.text))
     (sym c.behind.ensures.rest) standing))

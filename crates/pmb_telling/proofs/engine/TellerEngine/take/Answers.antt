@@ -7,17 +7,18 @@ use Rattle.pmb_telling.proofs.engine.TellerEngine.take.Goals as goal
 pub lines-init : goal.lines-init
 lines-init g c = record {
   failures = refl;
-  took = took_none c.args.self.now c.args.piece.now _ _;
+  took = took_none g.K.Keeper.Keeps c.args.self.now c.args.piece.now _ _;
 }
 
 -- reading begins anew
 pub lines-preserved : goal.lines-preserved
 lines-preserved g c = record {
   failures = c.in_ok-take_line.ensures.failed ∙ c.lines.invariant.failures;
-  took = took_more c.args.self.now c.lines.self c.take_line.new.self c.args.piece.now c.lines.rest.now
+  took = took_more g.K.Keeper.Keeps c.args.self.now c.lines.self c.take_line.new.self c.args.piece.now c.lines.rest.now
       c.in-Bytes.bytes.now _ _ _ _ _ _ c.lines.invariant.took
       (λ start bytes text stands.
-      subst (λ left. PutsOut (λ more. TakesLine start c.take_line.new.self bytes c.lines.rest.now left (text ++ more))
+      subst (λ left. PutsOut (λ more. TakesLine g.K.Keeper.Keeps start c.take_line.new.self bytes c.lines.rest.now
+      left (text ++ more))
       (g.W.Sink.told c.lines.writer).held c.lines.waiting.items (g.W.Sink.told c.take_line.new.writer).held
       c.take_line.new.waiting.items) c.in-Bytes.is
       (c.in_ok-take_line.ensures.takes start bytes text stands));
@@ -27,9 +28,11 @@ lines-preserved g c = record {
 pub returns-in-Nothing-clause-takes : goal.returns-in-Nothing-clause-takes
 returns-in-Nothing-clause-takes g c start bytes text stands =
     let took = c.lines.invariant.took start bytes text stands in
-    took_then (HasPutOut start c.lines.self) (HasPutOut start c.take_line.new.self) bytes text took.0 c.lines.rest.now
+    took_then (HasPutOut g.K.Keeper.Keeps start c.lines.self) (HasPutOut g.K.Keeper.Keeps start c.take_line.new.self)
+    bytes text took.0 c.lines.rest.now
     c.args.piece.now _ _ _ _ _ _ took.1 took.2
-    (subst (λ left. PutsOut (λ more. TakesLine start c.take_line.new.self (bytes ++ took.0) c.lines.rest.now left
+    (subst (λ left. PutsOut (λ more. TakesLine g.K.Keeper.Keeps start c.take_line.new.self (bytes ++ took.0)
+    c.lines.rest.now left
     ((text ++ took.2.text) ++ more))
     (g.W.Sink.told c.lines.writer).held c.lines.waiting.items (g.W.Sink.told c.take_line.new.writer).held
     c.take_line.new.waiting.items) c.in-Nothing.is
@@ -39,9 +42,11 @@ returns-in-Nothing-clause-takes g c start bytes text stands =
 pub returns-in-Stop-clause-takes : goal.returns-in-Stop-clause-takes
 returns-in-Stop-clause-takes g c start bytes text stands =
     let took = c.lines.invariant.took start bytes text stands in
-    took_then (HasPutOut start c.lines.self) (HasStopped start c.take_line.new.self) bytes text took.0 c.lines.rest.now
+    took_then (HasPutOut g.K.Keeper.Keeps start c.lines.self) (HasStopped g.K.Keeper.Keeps start c.take_line.new.self)
+    bytes text took.0 c.lines.rest.now
     c.args.piece.now _ _ _ _ _ _ took.1 took.2
-    (subst (λ left. PutsOut (λ more. TakesLine start c.take_line.new.self (bytes ++ took.0) c.lines.rest.now left
+    (subst (λ left. PutsOut (λ more. TakesLine g.K.Keeper.Keeps start c.take_line.new.self (bytes ++ took.0)
+    c.lines.rest.now left
     ((text ++ took.2.text) ++ more))
     (g.W.Sink.told c.lines.writer).held c.lines.waiting.items (g.W.Sink.told c.take_line.new.writer).held
     c.take_line.new.waiting.items) c.in-Stop.is

@@ -10,6 +10,7 @@ decreases-lines g l = length l.rest
 abbrev pub invariant-lines : goal.invariant-lines
 invariant-lines g l = record {
   failures : (g.W.Sink.told l.writer).failures ≡ (g.W.Sink.told l.fn.writer).failures;
-  took : TookUpTo l.fn.self l.self l.fn.piece l.rest (g.W.Sink.told l.fn.writer).held l.fn.waiting.items
+  took : TookUpTo g.K.Keeper.Keeps l.fn.self l.self l.fn.piece l.rest (g.W.Sink.told l.fn.writer).held
+      l.fn.waiting.items
       (g.W.Sink.told l.writer).held l.waiting.items;
 }

@@ -1,0 +1,9 @@
+mod BitCounts
+mod Devices
+mod NumberCounts
+mod Observations
+mod Pages
+mod Replies
+mod Sums
+mod Times
+mod Told

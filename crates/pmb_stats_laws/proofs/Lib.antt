@@ -1,0 +1,11 @@
+mod Addressed
+mod Counted
+mod DeviceWeights
+mod EachFact
+mod Faults
+mod ReadBytes
+mod Spelled
+mod Sums
+mod Told
+mod TotalWeights
+mod Weights

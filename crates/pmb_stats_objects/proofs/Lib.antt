@@ -1,0 +1,12 @@
+mod Found
+mod JsonMembers
+mod JsonNeeds
+mod JsonObjects
+mod Lists
+mod Names
+mod NumberTexts
+mod ObjectLines
+mod PageKeys
+mod Pieces
+mod Putting
+mod Spots

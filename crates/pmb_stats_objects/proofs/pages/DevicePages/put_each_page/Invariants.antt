@@ -1,0 +1,21 @@
+use Rattle.std.proofs.Common.{◌≡◌, List, take}
+use Rattle.std.specs.List.{flat_map}
+use Rattle.pmb_facts.specs.Fact.{FactData}
+use Rattle.pmb_keeper.specs.Setting.{Setting}
+use Rattle.pmb_observed.specs.Observing.{observations}
+use Rattle.pmb_observed.specs.Spot.{page_keys}
+use Rattle.pmb_stats_objects.specs.Pages.{page_item}
+use Rattle.pmb_stats_objects.specs.machine.Standing.{PagesStand}
+use Rattle.pmb_stats_objects.specs.machine.Written.{PutsItems}
+use Rattle.pmb_stats_objects.proofs.pages.DevicePages.put_each_page.Given as goal
+
+-- the pages so far
+abbrev pub invariant-loop-index : goal.invariant-loop-index
+invariant-loop-index g l = record {
+  put : (setting : Setting) (facts : List FactData) → PagesStand l.self setting facts
+      → PutsItems (flat_map (page_item l.self.digits setting.profile (observations setting facts) l.self.addr)
+      (take l.index (page_keys l.pages)))
+      (g.W.Sink.told l.fn.writer).held l.fn.waiting.items l.fn.place (g.W.Sink.told l.writer).held l.waiting.items
+      l.place;
+  failures : (g.W.Sink.told l.writer).failures ≡ (g.W.Sink.told l.fn.writer).failures;
+}

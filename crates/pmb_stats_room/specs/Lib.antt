@@ -1,0 +1,3 @@
+pub mod Standing
+pub mod Alike
+pub mod machine

@@ -1,0 +1,9 @@
+pub mod Blanks
+pub mod Sums
+pub mod Texts
+pub mod PageKeys
+pub mod Headed
+pub mod Spots
+pub mod Registers
+pub mod Puts
+pub mod Items

@@ -1,0 +1,6 @@
+pub mod Row
+pub mod Widths
+pub mod Counts
+pub mod Rows
+pub mod Table
+pub mod machine

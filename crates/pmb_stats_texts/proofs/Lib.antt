@@ -1,0 +1,5 @@
+mod Lists
+mod Counts
+mod Told
+mod Objects
+mod Table

@@ -1,0 +1,3 @@
+mod Continuing
+mod Kept
+mod Sent
