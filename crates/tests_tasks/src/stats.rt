@@ -137,7 +137,8 @@ fn keeps_what_a_fact_tells(rt: HostRuntime) -> Result<(), Fail> {
         page: PageKey::OnPage(0),
     };
     let bits = stats.register(spot).ok_or("no register")?;
-    assert!(rt; bits[6].first() == Some(b"0.25".as_slice()));
+    let bit = bits.get(6).ok_or("no bit")?;
+    assert!(rt; bit.first() == Some(b"0.25".as_slice()));
     assert!(rt; stats.numbers(spot).is_none());
     Ok(())
 }
@@ -154,7 +155,8 @@ fn has_room_for_each_register(rt: HostRuntime) -> Result<(), Fail> {
     };
     room.see_read(spot, 0x0040, Some(b"0.5"));
     let bits = room.register(spot).ok_or("no register")?;
-    assert!(rt; bits[6].count() == 1);
+    let bit = bits.get(6).ok_or("no bit")?;
+    assert!(rt; bit.count() == 1);
     Ok(())
 }
 
