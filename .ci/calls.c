@@ -91,6 +91,14 @@ static int decodes(pmb_format format, unsigned code, int64_t numerator, int64_t 
            found.numerator == numerator && found.denominator == denominator;
 }
 
+/* Whether a code has no value, for this reason, and what stood there is left. */
+static int has_no_value(pmb_format format, unsigned code, int status)
+{
+    pmb_quantity found = quantity_of(-7, -9);
+    return pmb_decode(&format, (uint16_t)code, &found) == status && found.numerator == -7 &&
+           found.denominator == -9;
+}
+
 /* Whether both calls refuse a format with a status, and leave what stood there. */
 static int refuses(pmb_format format, int status)
 {
@@ -183,8 +191,109 @@ static int formats(void)
         if (number < -9 || number > 9)
             EXPECT(refuses(format_of(PMB_DIRECT, 0, 0, -1, 0, number), PMB_BAD_SCALE));
     EXPECT(refuses(format_of(PMB_DIRECT, 0, 0, 0, 0, 99), PMB_ZERO_SLOPE));
-    for (kind = 7; kind < 256; kind++)
+    for (kind = PMB_UDIRECT + 1; kind < 256; kind++)
         EXPECT(refuses(format_of(kind, 0, 0, 1, 0, 0), PMB_BAD_FORMAT));
+    return 0;
+}
+
+/* Half precision: 12 is 1.5 * 2^3, so the field is 18 and the fraction 512. 2049 lies between the codes
+ * of 2048 and 2050, and 2^-25 between zero and the least code above it. */
+static int half_precision(void)
+{
+    const pmb_format half = format_of(PMB_HALF, 99, 99, 0, 0, 99);
+    unsigned code;
+    EXPECT(encodes(half, quantity_of(12, 1), PMB_OK, 0x4a00));
+    EXPECT(encodes(half, quantity_of(2049, 1), PMB_OK, 0x6800));
+    EXPECT(encodes(half, quantity_of(-1, INT64_C(1) << 25), PMB_OK, 0));
+    EXPECT(encodes(half, quantity_of(65504, 1), PMB_OK, 0x7bff));
+    EXPECT(encodes(half, quantity_of(65505, 1), PMB_ABOVE, 0));
+    EXPECT(encodes(half, quantity_of(-65504, 1), PMB_OK, 0xfbff));
+    EXPECT(encodes(half, quantity_of(-65505, 1), PMB_BELOW, 0));
+    EXPECT(encodes(half, quantity_of(0, 0), PMB_ZERO_DENOMINATOR, 0));
+    EXPECT(decodes(half, 0x4a00, 12, 1) && decodes(half, 0x8000, 0, 1));
+    for (code = 0; code < 65536; code++) {
+        const unsigned field = code >> 10 & 31, fraction = code & 1023;
+        /* the value times 2^24, and then both halved as long as they are even */
+        int64_t numerator = field == 0 ? fraction : (int64_t)(1024 + fraction) << (field - 1);
+        int64_t denominator = 1 << 24;
+        if (field == 31) {
+            EXPECT(has_no_value(half, code, PMB_NOT_A_NUMBER));
+            continue;
+        }
+        while (denominator > 1 && numerator % 2 == 0) {
+            numerator /= 2;
+            denominator /= 2;
+        }
+        if (code >> 15) numerator = -numerator;
+        EXPECT(decodes(half, code, numerator, denominator));
+        EXPECT(encodes(half, quantity_of(numerator, denominator), PMB_OK, code == 0x8000 ? 0 : code));
+    }
+    return 0;
+}
+
+/* The VID tables: their first and last codes, the volts of the first one and the step to the next, in
+ * hundredths of a millivolt, and whether 0 is off. */
+static int vid_tables(void)
+{
+    static const struct {
+        int table, first, last, volts, step, off;
+    } tables[] = {
+        {PMB_VID_VR11, 2, 178, 160000, -625, 0},    {PMB_VID_VR12, 1, 255, 25000, 500, 1},
+        {PMB_VID_VR13, 1, 255, 50000, 1000, 1},     {PMB_VID_IMVP9, 1, 255, 20000, 1000, 1},
+        {PMB_VID_AMD625MV, 0, 216, 155000, -625, 0}, {PMB_VID_NVIDIA195MV, 1, 255, 19500, 500, 1},
+    };
+    size_t i;
+    int code, number;
+    for (i = 0; i < sizeof tables / sizeof *tables; i++) {
+        const pmb_format vid = format_of(PMB_VID_TABLE, 99, tables[i].table, 0, 0, 99);
+        const int end = tables[i].volts + (tables[i].last - tables[i].first) * tables[i].step;
+        const int least = end < tables[i].volts ? end : tables[i].volts;
+        const int greatest = end < tables[i].volts ? tables[i].volts : end;
+        EXPECT(encodes(vid, quantity_of(least - 1, 100000), PMB_BELOW, 0));
+        EXPECT(encodes(vid, quantity_of(greatest + 1, 100000), PMB_ABOVE, 0));
+        EXPECT(encodes(vid, quantity_of(0, 1), PMB_BELOW, 0));
+        EXPECT(encodes(vid, quantity_of(0, 0), PMB_ZERO_DENOMINATOR, 0));
+        for (code = 0; code < 65536; code++) {
+            pmb_quantity found;
+            const int volts = tables[i].volts + (code - tables[i].first) * tables[i].step;
+            if (code < tables[i].first || code > tables[i].last) {
+                EXPECT(has_no_value(vid, code, code == 0 && tables[i].off ? PMB_OFF : PMB_NO_CODE));
+                continue;
+            }
+            EXPECT(encodes(vid, quantity_of(volts, 100000), PMB_OK, code));
+            EXPECT(pmb_decode(&vid, (uint16_t)code, &found) == PMB_OK);
+            EXPECT(found.numerator * 100000 == volts * found.denominator && found.denominator > 0);
+            EXPECT(decodes(vid, code, found.numerator, found.denominator));
+        }
+    }
+    /* a tie between codes goes to the even one: 0.2525 V between 1 and 2 */
+    EXPECT(encodes(format_of(PMB_VID_TABLE, 0, PMB_VID_VR12, 0, 0, 0), quantity_of(101, 400), PMB_OK, 2));
+    EXPECT(decodes(format_of(PMB_VID_TABLE, 0, PMB_VID_VR12, 0, 0, 0), 0x97, 1, 1));
+    for (number = PMB_VID_NVIDIA195MV + 1; number < 256; number++)
+        EXPECT(refuses(format_of(PMB_VID_TABLE, 0, number, 1, 0, 0), PMB_BAD_FORMAT));
+    return 0;
+}
+
+/* DIRECT whose words have no sign: with m = 3, b = 2, R = 1 the greatest is (6553.5 - 2) / 3. Beside a
+ * VOUT_MODE that says DIRECT words have a sign. */
+static int unsigned_direct(void)
+{
+    const pmb_format direct = format_of(PMB_UDIRECT, 99, 99, 3, 2, 1);
+    const pmb_format whole = format_of(PMB_UDIRECT, 0, 0, 1, 0, 0);
+    int number;
+    EXPECT(encodes(direct, quantity_of(1, 1), PMB_OK, 50));
+    EXPECT(encodes(direct, quantity_of(-2, 3), PMB_OK, 0));
+    EXPECT(encodes(direct, quantity_of(-7, 10), PMB_BELOW, 0));
+    EXPECT(encodes(direct, quantity_of(13103, 6), PMB_OK, 0xffff));
+    EXPECT(encodes(direct, quantity_of(13104, 6), PMB_ABOVE, 0));
+    EXPECT(decodes(direct, 0xffff, 13103, 6) && decodes(direct, 0x8000, 5458, 5));
+    EXPECT(decodes(whole, 0xffff, 65535, 1));
+    EXPECT(decodes(format_of(PMB_VOUT, 0, 0x40, 1, 0, 0), 0xffff, -1, 1));
+    EXPECT(decodes(format_of(PMB_VOUT_SIGNED, 0, 0x40, 1, 0, 0), 0xffff, -1, 1));
+    for (number = -128; number < 128; number++)
+        if (number < -9 || number > 9)
+            EXPECT(refuses(format_of(PMB_UDIRECT, 0, 0, -1, 0, number), PMB_BAD_SCALE));
+    EXPECT(refuses(format_of(PMB_UDIRECT, 0, 0, 0, 0, 99), PMB_ZERO_SLOPE));
     return 0;
 }
 
@@ -195,6 +304,7 @@ static int round_trips(void)
         format_of(PMB_LINEAR11, 0, 0, 0, 0, 0),       format_of(PMB_ULINEAR16, -16, 0, 0, 0, 0),
         format_of(PMB_SLINEAR16, 15, 0, 0, 0, 0),     format_of(PMB_VOUT, 0, 0x17, 0, 0, 0),
         format_of(PMB_DIRECT, 0, 0, -32768, 32767, 9), format_of(PMB_DIRECT, 0, 0, 1, -1, -9),
+        format_of(PMB_UDIRECT, 0, 0, -32768, 32767, 9), format_of(PMB_UDIRECT, 0, 0, 1, -1, -9),
     };
     size_t i;
     unsigned code;
@@ -504,8 +614,9 @@ static int far_offsets(void)
 
 static void *all(void *result)
 {
-    *(int *)result = pmb_version() != PMB_VERSION || pecs() || formats() || round_trips() ||
-                     texts_in() || texts_out() || events() || senseless() || far_offsets();
+    *(int *)result = pmb_version() != PMB_VERSION || pecs() || formats() || half_precision() ||
+                     vid_tables() || unsigned_direct() || round_trips() || texts_in() ||
+                     texts_out() || events() || senseless() || far_offsets();
     return result;
 }
 

@@ -39,10 +39,14 @@ import pmb
 FORMATS = ["linear11", "vout:17", "vout:00", "vout:1f", "direct:3,2,1", "direct:-32768,32767,-9"]
 FORMATS += [f"linear11:{e}" for e in (-16, -3, 15)] + [f"ulinear16:{e}" for e in (-16, -9, 15)]
 FORMATS += [f"slinear16:{e}" for e in (-16, -9, 15)] + ["direct:1,-1,9", "direct:-7,0,0"]
+FORMATS += ["half", "udirect:1,-1,9", "udirect:-7,0,0", "udirect:1,0,0"]
+FORMATS += [f"vid:{table}" for table in ("vr11", "vr12", "vr13", "imvp9", "amd625mv", "nvidia195mv")]
 BAD = ["", "linear", "LINEAR11", "linear11:", "linear11:16", "ulinear16:-17", "slinear16:+1"]
 BAD += ["ulinear16:128", "ulinear16:-0", "slinear16:0015", "vout:1", "vout:g0", "vout:40", "vout:20"]
 BAD += ["vout:60", "vout:80", "vout:ff", "vout:FF", "direct:0,1,2", "direct:1,2", "direct:1,2,10"]
 BAD += ["direct:0,0,10", "direct:1,2,3,4", "direct:32768,0,0", "direct:1,,1", " linear11"]
+BAD += ["half:", "HALF", "half ", "vid", "vid:", "vid:vr14", "vid:VR12", "vid:vr12 ", "vid:1", "vid:vr12:0"]
+BAD += ["udirect", "udirect:", "udirect:1,2", "udirect:0,1,2", "udirect:1,2,10", "udirect:0,0,10"]
 BAD += ["ulinear16:" + "0" * 40 + "1", "ulinear16:99999999999999999999", "ulinear16:\u0661"]
 ROOT = os.path.join(os.path.dirname(os.path.abspath(__file__)), os.pardir)
 failed = 0
@@ -103,11 +107,13 @@ def compare(program, count):
                 again = answer(pmb.encode, form, value)
                 again = again if isinstance(again, str) else f"{again:04x}"
                 check(again == line, f"encode {form} of {value}: {again}, and not {line}")
-        codes = [0, 1, 0x7FFF, 0x8000, 0xFFFF] + [r.randrange(65536) for _ in range(each)]
+        codes = [0, 1, 2, 0xFF, 0x100, 0x7BFF, 0x7C00, 0x7FFF, 0x8000, 0xFFFF]
+        codes += [r.randrange(65536) for _ in range(each)]
         _, right, _ = answers(program, "decode", form, [f"{code:04x}" for code in codes])
         check(len(right) == len(codes), f"decode {form}: {len(right)} answers")
         for code, line in zip(codes, right):
-            found = pmb.quantity_text(pmb.decode(form, code))
+            found = answer(pmb.decode, form, code)
+            found = found if isinstance(found, str) else pmb.quantity_text(found)
             check(found == line, f"decode {form} of {code:04x}: {found}, the program says {line}")
     for form in FORMATS + BAD:
         status, _, said = answers(program, "encode", form, [])
@@ -263,7 +269,7 @@ def told_of_kinds():
         kind, _, keys = row.strip("|").split("|")
         kind, found = kind.strip(" `"), {"kind", *re.findall("`([a-z_]+)`", keys)}
         if "what the data mean" in keys:
-            found |= {"value", "number", "mode", "raw", "bits" if kind == "read" else "clears"}
+            found |= {"value", "number", "ratio", "mode", "raw", "bits" if kind == "read" else "clears"}
         if kind not in ("device", "end"):
             found |= {"at", "line", "column", "time"}
         yield kind, found
@@ -443,7 +449,13 @@ def compare_kinds():
     for given, right in (
         ((pmb.Format.direct(0, 0, 99), 1), ("ZeroSlope", "format")),
         ((pmb.Format.direct(1, 0, 999), 1), ("BadFormat", "format")),
-        ((pmb.Format(7), 1), ("BadFormat", "format")),
+        ((pmb.Format(10), 1), ("BadFormat", "format")),
+        ((pmb.Format(8, mode=6), 1), ("BadFormat", "format")),
+        ((pmb.Format.direct(0, 0, 99, unsigned=True), 1), ("ZeroSlope", "format")),
+        (("vid:vr14", "x"), ("BadFormat", "format")),
+        # (the code 0, which is off, is no fault of the format)
+        (("vid:vr12", "x"), ("BadDigit", "quantity")),
+        (("vid:vr12", 0), ("Below", "quantity")),
         (("linear11", "1" + "0" * 20), ("TooLarge", "quantity")),
         (("linear11", 33521665), ("Above", "quantity")),
         (("ulinear16:16", "x"), ("BadExponent", "format")),
@@ -453,6 +465,28 @@ def compare_kinds():
         except pmb.Error as error:
             found = (error.fault, error.place)
         check(found == right, f"{given}: {found}, and not {right}")
+    unsigned = pmb.Format.direct(1, 0, 0, unsigned=True)
+    for given, right in (
+        ((pmb.Format.half(), 0x4A00), 12),
+        ((pmb.Format.half(), 0x7C00), ("NotANumber", "code")),
+        ((pmb.Format.vid("vr12"), 0x97), 1),
+        ((pmb.Format.vid("vr12"), 0), ("Off", "code")),
+        ((pmb.Format.vid("vr12"), 0x100), ("NoCode", "code")),
+        ((pmb.Format.vid("vr12"), 0x10000), ("BadCode", "code")),
+        ((pmb.Format(8, mode=6), 0x10000), ("BadFormat", "format")),
+        ((unsigned, 0xFFFF), 65535),
+        # (beside a VOUT_MODE a word has no sign for an unsigned command alone)
+        ((pmb.Format.vout(0x40, direct=unsigned), 0xFFFF), 65535),
+        ((pmb.Format.vout(0x40, signed=True, direct=unsigned), 0xFFFF), -1),
+        ((pmb.Format.vout(0x40, direct=pmb.Format.direct(1, 0, 0)), 0xFFFF), -1),
+        ((pmb.Format.vout(0x17, direct=unsigned), 0xFFFF), Fraction(65535, 512)),
+        ((pmb.Format.vout(0x40, direct=unsigned._replace(m=0)), 1), ("NoCoefficients", "format")),
+    ):
+        try:
+            found = pmb.decode(*given)
+        except pmb.Error as error:
+            found = (error.fault, error.place)
+        check(found == right, f"decode {given}: {found}, and not {right}")
     for number in (1 << 80, Fraction(1, 1 << 62), 1e300):
         check(answer(pmb.quantity_text, number) == "! TooLarge", f"the text of {number}")
     for code in (-1, 65536):
@@ -502,6 +536,24 @@ def compare_floats():
         ("direct:0,0,0", 1e300, "! ZeroSlope"),
         ("direct:1,0,10", 5e-324, "! BadScale"),
         ("vout:40", 1e300, "! NoCoefficients"),
+        # (2^-25 is half way between 0 and the least half above it)
+        ("half", Fraction(1, 1 << 25), 0x0000),
+        ("half", Fraction(10**100 + 1, 10**100 << 25), 0x0001),
+        ("half", -5e-324, 0x0000),
+        ("half", 65504.0, 0x7BFF),
+        ("half", Fraction(65504 * 3**200 + 1, 3**200), "! Above"),
+        ("half", Decimal("-1e999999999"), "! Below"),
+        ("vid:vr12", 1.0, 0x97),
+        # (0.2525 V is half way between the codes 1 and 2)
+        ("vid:vr12", Fraction(101, 400), 2),
+        ("vid:vr12", Fraction(101 * 10**100 - 1, 400 * 10**100), 1),
+        ("vid:vr12", 5e-324, "! Below"),
+        ("vid:amd625mv", 1e300, "! Above"),
+        ("vid:vr14", 1e300, "! BadFormat"),
+        ("udirect:1,0,0", 65535.0, 0xFFFF),
+        ("udirect:1,0,0", -5e-324, "! Below"),
+        ("udirect:1,0,-9", 1e10, 10),
+        ("udirect:0,0,0", 1e300, "! ZeroSlope"),
     ):
         found = answer(pmb.encode, form, number)
         kind = type(number).__name__
@@ -554,9 +606,17 @@ def compare_neighbours():
         "direct:-7,32767,9",
         pmb.Format.vout(0x1F, signed=True),
         pmb.Format.vout(0x40, signed=True, direct=pmb.Format.direct(-3, 1, 2)),
+        "half",
+        "vid:vr11",
+        "vid:vr12",
+        "vid:amd625mv",
+        "udirect:3,2,1",
+        "udirect:-7,-32768,-9",
     ):
-        # (LINEAR11 with one exponent has the codes whose bits 15:11 are that)
+        # (LINEAR11 with one exponent has the codes whose bits 15:11 are that; half precision and
+        # VID tables have those with a value)
         codes = range(29 << 11, 30 << 11) if form == "linear11:-3" else range(65536)
+        codes = [code for code in codes if isinstance(answer(pmb.decode, form, code), Fraction)]
         values, code_of = canonical(codes, form)
         # each such quantity, with what is encoded on either side of it
         ends = [(values[0], "! Below", values[0]), (values[-1], values[-1], "! Above")]
@@ -621,6 +681,7 @@ def compare_wrong_types():
         (TypeError, pmb.encode, pmb.Format("x"), 1),
         (TypeError, pmb.encode, pmb.Format(1, 1.5), 1),
         (TypeError, pmb.Format.parse, 5),
+        (TypeError, pmb.Format.vid, 1),
         (TypeError, pmb.Format.vout, 0x40, False, 5),
         (TypeError, pmb.decode, "linear11", 3.0),
         (TypeError, pmb.decode, "linear11", "d300"),
@@ -711,6 +772,7 @@ def compare_names_of_arguments():
         ("format is a str or a pmb.Format, not NoneType", pmb.encode, None, 1),
         ("format is a str or a pmb.Format, not int", pmb.Format.parse, 5),
         ("m of format is an int, not str", pmb.encode, pmb.Format.direct("3", 2, 1), 1),
+        ("table is a str, not int", pmb.Format.vid, 1),
         ("direct is a pmb.Format, not str", pmb.Format.vout, 0x40, False, "direct:1,2,3"),
         ("quantity is a number or a str, not NoneType", pmb.encode, "linear11", None),
         ("quantity is a finite number, not nan", pmb.encode, "linear11", math.nan),
@@ -1037,7 +1099,7 @@ def compare_package():
         check(f'"{pmb.__version__}"' in read("python", name).decode(), f"the version in {name}")
     # each public name has an example, and all of them are right
     public = [(pmb, name) for name in pmb.__all__ + ["json"]]
-    public += [(pmb.Format, name) for name in ("parse", "direct", "vout")]
+    public += [(pmb.Format, name) for name in ("parse", "half", "vid", "direct", "vout")]
     public += [(pmb.objects, name) for name in pmb.objects.__all__ if name != "Object"]
     for owner, name in public:
         text = getattr(owner, name).__doc__ or ""

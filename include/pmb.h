@@ -41,7 +41,7 @@ enum pmb_status {
     /* The quantity is below every value, or above every value, of the format. */
     PMB_BELOW = 1,
     PMB_ABOVE = 2,
-    /* The format: its kind is none of enum pmb_kind. */
+    /* The format: its kind is none of enum pmb_kind, or its table none of enum pmb_vid_table. */
     PMB_BAD_FORMAT = 3,
     /* Its exponent of two is not from -16 to 15. */
     PMB_BAD_EXPONENT = 4,
@@ -81,7 +81,13 @@ enum pmb_status {
     /* No event has ended in the text so far. */
     PMB_NO_EVENT = 20,
     /* A word of the text is no token. */
-    PMB_BAD_TOKEN = 21
+    PMB_BAD_TOKEN = 21,
+    /* The code has no value: in half precision it is an infinity, or not a number. */
+    PMB_NOT_A_NUMBER = 22,
+    /* The code has no value: the VID table has no voltage for it. */
+    PMB_NO_CODE = 23,
+    /* The code has no value: in the VID table it stands for an output that is off. */
+    PMB_OFF = 24
 };
 
 /* A quantity: an exact fraction, without a unit. What is given may be any fraction, of any signs.
@@ -102,15 +108,33 @@ enum pmb_kind {
     /* The format that a VOUT_MODE names, for a command whose linear words are unsigned (as
      * VOUT_COMMAND) or signed (as VOUT_TRIM). */
     PMB_VOUT = 5,
-    PMB_VOUT_SIGNED = 6
+    PMB_VOUT_SIGNED = 6,
+    /* IEEE 754 half precision (binary16). */
+    PMB_HALF = 7,
+    /* The codes of a VID table. (PMB_VID is a status.) */
+    PMB_VID_TABLE = 8,
+    /* DIRECT with words Y that have no sign, 0 to 65535. */
+    PMB_UDIRECT = 9
+};
+
+/* The VID tables (docs/numbers.md has their codes and voltages). */
+enum pmb_vid_table {
+    PMB_VID_VR11 = 0,
+    PMB_VID_VR12 = 1,
+    PMB_VID_VR13 = 2,
+    PMB_VID_IMVP9 = 3,
+    PMB_VID_AMD625MV = 4,
+    PMB_VID_NVIDIA195MV = 5
 };
 
 /* A number format: its kind, and the fields that the kind asks for. Other fields are ignored. */
 typedef struct pmb_format {
     uint8_t kind;    /* one of enum pmb_kind */
     int8_t exponent; /* of two, -16 to 15: PMB_LINEAR11_FIXED, PMB_ULINEAR16, PMB_SLINEAR16 */
-    uint8_t mode;    /* VOUT_MODE: PMB_VOUT, PMB_VOUT_SIGNED */
-    int8_t r;        /* DIRECT's exponent of ten, -9 to 9 */
+    uint8_t mode;    /* VOUT_MODE: PMB_VOUT, PMB_VOUT_SIGNED; the table, one of enum pmb_vid_table:
+                      * PMB_VID_TABLE */
+    int8_t r;        /* DIRECT's exponent of ten, -9 to 9: PMB_DIRECT, PMB_UDIRECT, and where VOUT_MODE
+                      * says DIRECT, whose words then have a sign */
     int16_t m;       /* DIRECT's slope; not 0, but for PMB_VOUT and PMB_VOUT_SIGNED 0 where none */
     int16_t b;       /* DIRECT's offset */
 } pmb_format;
@@ -124,13 +148,15 @@ uint8_t pmb_pec_next(uint8_t crc, uint8_t byte);
 uint8_t pmb_pec(uint8_t crc, const uint8_t *bytes, size_t length);
 
 /* Writes the code of two bytes whose value is nearest to a quantity: the even one where two are
- * equally near. A quantity outside the range is a fault, however little it is outside.
+ * equally near. A quantity outside the range is a fault, however little it is outside. A code
+ * without a value, such as that of a VID table for off, is never written.
  * Returns what is wrong with the format (PMB_BAD_FORMAT to PMB_NO_COEFFICIENTS), or else with the
  * quantity (PMB_ZERO_DENOMINATOR, PMB_TOO_LARGE), or else PMB_BELOW or PMB_ABOVE. */
 int32_t pmb_encode(const pmb_format *format, pmb_quantity quantity, uint16_t *code);
 
 /* Writes the exact value of a code of two bytes.
- * Returns what is wrong with the format (PMB_BAD_FORMAT to PMB_NO_COEFFICIENTS). */
+ * Returns what is wrong with the format (PMB_BAD_FORMAT to PMB_NO_COEFFICIENTS), or else why the code
+ * has no value: PMB_NOT_A_NUMBER for PMB_HALF, PMB_NO_CODE or PMB_OFF for PMB_VID_TABLE. */
 int32_t pmb_decode(const pmb_format *format, uint16_t code, pmb_quantity *quantity);
 
 /* Writes the quantity that a text of so many bytes spells, without a NUL: an optional '-', digits,

@@ -132,7 +132,8 @@ class Bench:
 
         def value_result(reply):
             code = reply[0] + 256 * reply[1]
-            return numbers.text(numbers.decode(form, code))
+            has_value = numbers.has_value(form, code)
+            return numbers.text(numbers.decode(form, code)) if has_value else "raw"
 
         return self.make_read(request, entry, None, value_result)
 

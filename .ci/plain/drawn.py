@@ -10,8 +10,9 @@ PROFILES = (
     (["--sample"], b"", profiles.SAMPLE),
     ([], profiles.ODD_TEXT + b"%%\n", profiles.ODD),
     ([], profiles.UNLIKE_TEXT + b"%%\n", profiles.UNLIKE),
+    ([], profiles.VOLTS_TEXT + b"%%\n", profiles.VOLTS),
 )
-OFTEN = (0x00, 0x03, 0x20, 0x21, 0x22, 0x30, 0x79, 0x7E, 0x88, 0x99)
+OFTEN = (0x00, 0x03, 0x20, 0x21, 0x22, 0x25, 0x30, 0x79, 0x7E, 0x88, 0x99)
 
 
 def some_bytes(chance, count):
@@ -119,14 +120,16 @@ def request_line(chance, profile):
     if kind == "call":
         words += ["%02x" % byte for byte in data(chance, entry.call)]
     if kind == "set":
-        words.append(quantity(chance, ("ulinear16", -9)))
+        of_mode = entry.is_voltage() or entry.kind in ("raw", "status")
+        form = ("ulinear16", -9) if of_mode else entry.number_format()
+        words.append(quantity(chance, form if chance.random() < 0.7 else ("ulinear16", -9)))
     return " ".join(words + (["pec"] if pec else []))
 
 
 def quantity(chance, form):
     """A value of a format, or a number half way to another one, or close to that."""
-    one = numbers.decode(form, chance.randrange(2**16))
-    ordered, _ = numbers.values(form)
+    ordered, codes = numbers.values(form)
+    one = numbers.decode(form, chance.choice(codes))
     place = chance.choice((0, 1, len(ordered) - 2, chance.randrange(len(ordered) - 1)))
     half = Fraction(ordered[place] + ordered[place + 1], 2 * numbers.denominator(form))
     little = Fraction(chance.choice((-1, 0, 0, 1)), 10 ** chance.randrange(1, 9))
@@ -138,12 +141,16 @@ def rows_under(chance, flag, front, profile):
     """Captures, lines and requests."""
     some = capture(chance, profile, chance.randrange(1, 7)).encode()
     timed = traffic.capture(chance, profile, lambda: packet(chance, profile)).encode()
+    volts = traffic.voltages(chance, profile).encode()
     drawn = [lines.line_of(transaction(chance, profile)) for _ in range(6)]
     asked = [request_line(chance, profile) for _ in range(12)]
     return [
         (["show", *flag], front + some),
         (["json", *flag, *flags(chance, profile)], front + timed),
         (["log", *flag, *flags(chance, profile)], front + timed),
+        (["json", *flag, *flags(chance, profile)], front + volts),
+        (["log", *flag, *flags(chance, profile)], front + volts),
+        (["stats", *flag, *chance.choice(([], ["--json"], ["--json", "--late"]))], front + volts),
         (["build", *flag], front + "\n".join(drawn).encode()),
         (["run", *flag], front + "\n".join(asked).encode()),
     ]
@@ -159,7 +166,7 @@ def rows(chance, count):
         form = numbers.format_of(word)
         quantities = [quantity(chance, form) for _ in range(30)]
         found.append((["encode", word], "\n".join(quantities).encode()))
-        codes = ["%04x" % chance.randrange(2**16) for _ in range(30)]
+        codes = ["%04x" % some_code(chance) for _ in range(30)]
         found.append((["decode", word], "\n".join(codes).encode()))
     for _ in range(4 * count):
         found.append((["decode", format_word(chance)], b"d300\n0001\n"))
@@ -174,6 +181,12 @@ def rows(chance, count):
         if profile.devices:
             found += rows_under(chance, [], text + b"%%\n", profile)
     return found
+
+
+def some_code(chance):
+    """A code; often one that a VID table may have, or an IEEE half that is no number."""
+    codes = (chance.randrange(2**16), chance.randrange(0x104), 0x7C00 | chance.randrange(2**16))
+    return chance.choice(codes)
 
 
 def long_rows(chance):
@@ -196,7 +209,8 @@ def long_rows(chance):
 def format_word(chance):
     """A FORMAT with one character changed, removed or doubled. None begins with a dash, since that
     may be a flag."""
-    word = chance.choice(FORMATS + ["vout:0F", "ulinear16:127", "direct:32767,-32768,9"])
+    word = chance.choice(FORMATS + [
+        "vout:0F", "ulinear16:127", "direct:32767,-32768,9", "udirect:-32768,32767,-9"])
     at = chance.randrange(1, len(word))
     other = chance.choice(("", word[at] * 2, *"0123456789abfF:,.-+ x"))
     return word[:at] + other + word[at + 1:]
@@ -208,10 +222,12 @@ def spoiled(chance, table, seldom=0.01):
     """A table with a key too many, one too few, or a value of another type, now and then."""
     table = {key: value for key, value in table.items() if value is not None}
     if chance.random() < seldom:
-        table[chance.choice(("colour", "m", "code", "name", "address"))] = 1
+        keys = ("colour", "m", "code", "name", "address", "vid", "unsigned", "exponent")
+        table[chance.choice(keys)] = 1
     for key in list(table):
         if chance.random() < seldom:
-            others = (1.5, "x", True, 7, -1, 300, [], {}, [7], [1.5, 7], ["00", 7])
+            others = (1.5, "x", True, 7, -1, 300, [], {}, [7], [1.5, 7], ["00", 7], {"1": 7},
+                      "vr12", ["vr12", 7], {"1": "vr12", "x": "vr12"})
             table[key] = chance.choice(others)
         elif chance.random() < seldom / 3:
             del table[key]
@@ -243,7 +259,7 @@ def ignored(chance):
 
 def device_table(chance):
     pages = often(chance, 0.5, 1, 2, 2, 2, 3, 3, 3, 32, chance.choice((0, 33, 2, 2)))
-    mode = lambda: chance.choice((0x13, 0x13, 0x1F, 0x0F, 0x40, 0x40, 0x97, 0x20, 0x60))
+    mode = lambda: chance.choice((0x13, 0x13, 0x1F, 0x0F, 0x40, 0x40, 0x97, *traffic.MODES))
     commands = [command_table(chance, pages or 1) for _ in range(chance.randrange(5))]
     return spoiled(chance, {
         "address": chance.choice((*range(0x08, 0x78), 0x07, 0x0C, 0x78)),
@@ -251,9 +267,10 @@ def device_table(chance):
         "pages": pages,
         "vout_mode": often(chance, 0.6, mode(), of_each_page(chance, pages or 1, mode)),
         "standard": often(chance, 0.5, True, False),
-        "vout_direct": coefficients_table(chance) if chance.random() < 0.3 else None,
+        "vout_direct": vout_direct(chance) if chance.random() < 0.3 else None,
         "command": commands or None,
         "name": often(chance, 0.4, device_name(chance)),
+        "vid": often(chance, 0.5, vid_tables(chance, pages or 1)),
     })
 
 
@@ -263,6 +280,21 @@ def of_each_page(chance, pages, item):
     if chance.random() < 0.2:
         return [item()] * count
     return [item() for _ in range(count)]
+
+
+def vid_tables(chance, pages):
+    """What `vid` names, in one of its shapes; seldom a table or a type that there isn't."""
+    table = lambda: chance.choice(TABLES) if chance.random() < 0.99 else chance.choice(("VR12", ""))
+    shape = chance.choice(("one", "pages", "types"))
+    if shape == "one":
+        return table()
+    if shape == "pages":
+        return of_each_page(chance, pages, table)
+    types = chance.sample(range(32), chance.choice((0, 1, 2, 32))) + [0, 1, 2]
+    found = {str(one): table() for one in types[: chance.choice((0, 3, 35))]}
+    if chance.random() < 0.03:
+        found[chance.choice(("32", "01", "-1", "x", "1_0"))] = table()
+    return found
 
 
 def device_name(chance):
@@ -280,23 +312,37 @@ def coefficients_table(chance):
     })
 
 
+def vout_direct(chance):
+    """The coefficients of output voltages, now and then of words without a sign."""
+    found = coefficients_table(chance)
+    if chance.random() < 0.4:
+        found["unsigned"] = chance.choice((True, True, False, chance.choice((1, "true", True))))
+    return found
+
+
 def command_table(chance, pages):
     """A standard command changed, or one of its own, most often with parts that go together."""
     form = chance.choice(("one", "two", "two", "two", "four", "eight", "block"))
     kind = "raw"
     if form == "two":
-        kind = chance.choice(("linear11", "vout", "vout_signed", "direct", "status", "raw"))
+        of_old = ("linear11", "vout", "vout_signed", "direct", "direct", "status", "raw")
+        of_new = ("half", "ulinear16", "slinear16", "vid:" + chance.choice(TABLES))
+        kind = chance.choice(of_old + of_new)
+    elif chance.random() < 0.02:
+        kind = chance.choice(("half", "slinear16", "vid:vr12"))
     size = {"four": 4, "eight": 8, "one": 1, "two": 2}.get(form, 3)
+    share = {"linear11": 0.3, "ulinear16": 0.95, "slinear16": 0.95}.get(kind, 0.02)
     command = {
         "code": chance.choice((*range(0xD0, 0xFF), chance.choice((0x00, 0x20, 0x21, 0x30, 0x7E)))),
         "name": often(chance, 0.3, "RATIO", "X_9", "A" * 32, chance.choice(("A" * 33, "a", "B"))),
         "write": chance.choice((form, form, "none", "zero", None)),
         "read": chance.choice((form, form, form, "none", None)),
         "call": often(chance, 0.2, "two", "block", "none"),
-        "kind": often(chance, 0.9, kind),
-        "exponent": often(chance, 0.3 if kind == "linear11" else 0.02, -3, 15, -16, 16),
+        "kind": often(chance, 0.9, kind if chance.random() < 0.99 else chance.choice(NO_KINDS)),
+        "exponent": often(chance, share, -3, 15, -16, 0, chance.choice((16, -17, -9))),
         "paged": often(chance, 0.5, True, False),
         "initial": often(chance, 0.2, "41" * size, "fF" * size, "4" * size),
+        "unsigned": often(chance, 0.4 if kind == "direct" else 0.02, True, True, False),
     }
     if command["paged"] and chance.random() < 0.3 or chance.random() < 0.02:
         command["initial"] = of_each_page(chance, pages, lambda: digits(chance, size))
@@ -306,7 +352,7 @@ def command_table(chance, pages):
         del command["code"]
         names = [entry.name for entry in profiles.STANDARD if entry.code in OFTEN]
         command["name"] = chance.choice((*names, "VIN_ON", "READ_VOUT", "OPERATION", "MFR_IDS"))
-        for key in ("write", "read", "call", "kind", "paged", "exponent", "initial"):
+        for key in ("write", "read", "call", "kind", "paged", "exponent", "initial", "unsigned"):
             if chance.random() < 0.8:
                 command[key] = None
         if chance.random() < 0.2:
@@ -320,5 +366,8 @@ def digits(chance, size):
     return chance.choice(("41", "fF", "00", "18", "7e")) * size
 
 
+TABLES = tuple(numbers.TABLES)
+NO_KINDS = ("vid", "vid:", "vid:vr14", "HALF", "half ", "udirect", "linear16", "ulinear16:-9")
 FORMATS = """linear11 linear11:-3 linear11:15 ulinear16:-9 slinear16:-16 vout:17 direct:3,2,1
-direct:-32768,32767,9 direct:7,-5,-9""".split()
+direct:-32768,32767,9 direct:7,-5,-9 half vid:vr11 vid:vr12 vid:vr13 vid:imvp9 vid:amd625mv
+vid:nvidia195mv udirect:3,2,1 udirect:-7,5,-9""".split()

@@ -1,7 +1,7 @@
 """What `pmb log` writes of a capture, by docs/log.md: a line for each packet, part, refusal and bad
 token."""
 
-from . import numbers, objects, packets, reading
+from . import numbers, objects, packets, reading, voltages
 from .known import UNKNOWN, Known
 from .packets import ACK, ALERT, START, STOP, Alert, NoAlert, Refused, Write
 from .profiles import ALL_PAGES, STANDARD, rows_under
@@ -10,10 +10,9 @@ from .profiles import ALL_PAGES, STANDARD, rows_under
 UNITS = {int(row[0], 16): row[7] for row in rows_under("The standard commands")}
 NAMES = {entry.code: (entry.name, entry.kind) for entry in STANDARD}
 
-FAULTS = {
-    "Relative": "relative", "Vid": "VID", "Ieee": "half precision",
-    "NoCoefficients": "DIRECT, no coefficients",
-}
+# Why a VOUT_MODE gives no number, and what words without a value are called.
+MODES = {"relative": "relative", "vid": "VID", "coefficients": "DIRECT, no coefficients"}
+WORDLESS = {"NotANumber": "not a number", "NoCode": "no VID code", "Off": "off"}
 EVENTS = {"S": "START", "P": "STOP", "A": "ACK", "N": "NACK"}
 KINDS = {"Start": "START", "Byte": "a byte", "Ack": "ACK", "Nack": "NACK", "Stop": "STOP"}
 
@@ -119,34 +118,38 @@ class Lines:
             return digits(data)
         if entry.kind == "status":
             return " ".join(objects.bit_names(code, data)) or "no bits"
-        if entry.kind in ("vout", "vout_signed"):
+        if entry.is_voltage():
             return self.voltage(device, entry, data)
-        form = ("linear11",)
-        if entry.kind == "direct":
-            form = entry.coefficients
-        elif entry.exponent is not None:
-            form = numbers.linear("linear11 fixed", entry.exponent)
-        return self.number(form, entry, data)
+        return self.number(voltages.Way(entry.number_format(), False), entry, data, "")
 
-    def number(self, form, entry, data):
-        value = numbers.decode(form, objects.word_of(data))
-        return objects.rounded(value, self.choice.digits) + unit(entry)
+    def number(self, way, entry, data, mark):
+        """A number with its unit and a mark, or a factor; or the bytes, and why they have no value."""
+        try:
+            value = numbers.decode(way.form, objects.word_of(data))
+        except numbers.Fault as fault:
+            return digits(data) + " (%s)" % WORDLESS[str(fault)]
+        says = " of VOUT_COMMAND" if way.is_ratio else unit(entry)
+        return objects.rounded(value, self.choice.digits) + says + mark
 
     def voltage(self, device, entry, data):
         """An output voltage, by the VOUT_MODE of the selected page; or its bytes, and why."""
         mode = self.known.mode(device.address)
-        if mode == UNKNOWN:
-            return digits(data) + " (VOUT_MODE unknown)"
-        if mode == "page":
-            is_all = self.known.pages[device.address] == ALL_PAGES
-            return digits(data) + (" (pages differ)" if is_all else " (no such page)")
         try:
-            form = numbers.vout_format(mode, entry.kind == "vout_signed", device.vout_direct)
+            way = voltages.way_of(self.known, device, entry)
         except numbers.Fault as fault:
-            return digits(data) + " (VOUT_MODE %02x %s)" % (mode, FAULTS[str(fault)])
+            return digits(data) + " (%s)" % self.reason(device, str(fault), mode)
         is_assumed = self.told.mode(device.address) == UNKNOWN
         mark = " (VOUT_MODE %02x assumed)" % mode if is_assumed else ""
-        return self.number(form, entry, data) + mark
+        return self.number(way, entry, data, mark)
+
+    def reason(self, device, fault, mode):
+        """Why a voltage can't be read."""
+        if fault == UNKNOWN:
+            return "VOUT_MODE unknown" if mode == UNKNOWN else "PAGE unknown"
+        if fault == "page":
+            is_all = self.known.pages[device.address] == ALL_PAGES
+            return "pages differ" if is_all else "no such page"
+        return "VOUT_MODE %02x %s" % (mode, MODES[fault])
 
     # packets
 

@@ -41,15 +41,11 @@ class Context:
 
 def number_format(device, entry, mode):
     """The number format of a command's data. A VOUT_MODE that isn't known is a fault."""
-    if entry.kind in ("vout", "vout_signed"):
-        if mode is None:
-            raise numbers.Fault("ModeUnknown")
-        return numbers.vout_format(mode, entry.kind == "vout_signed", device.vout_direct)
-    if entry.kind == "direct":
-        return entry.coefficients
-    if entry.exponent is not None:
-        return numbers.linear("linear11 fixed", entry.exponent)
-    return ("linear11",)
+    if not entry.is_voltage():
+        return entry.number_format()
+    if mode is None:
+        raise numbers.Fault("ModeUnknown")
+    return numbers.vout_format(mode, entry.kind == "vout_signed", device.vout_direct)
 
 
 def data_note(context, address, code, data):
@@ -67,10 +63,10 @@ def data_note(context, address, code, data):
         ]
         return " ".join([entry.name] + (bits or ["none"]))
     try:
-        form = number_format(device, entry, context.mode(address))
+        number = numbers.decode(number_format(device, entry, context.mode(address)), word)
     except numbers.Fault:
         return entry.name + " raw"
-    return entry.name + " " + numbers.text(numbers.decode(form, word))
+    return entry.name + " " + numbers.text(number)
 
 
 def note(context, transaction):

@@ -3,7 +3,7 @@
 from functools import partial
 from typing import NamedTuple, Optional
 
-from . import numbers, packets, reading
+from . import numbers, packets, reading, voltages
 from .known import UNKNOWN, Known
 from .packets import ACK, ALERT, START, STOP, Alert, Call, NoAlert, Refused, Write
 from .profiles import ALL_PAGES, bit_name
@@ -131,33 +131,27 @@ class Objects:
         if entry.kind == "status":
             return [("clears" if is_write else "bits", array(bit_names(code, data)))]
         try:
-            number = numbers.decode(self.number_format(device, entry), word_of(data))
+            way = self.way(device, entry)
+            number = numbers.decode(way.form, word_of(data))
         except numbers.Fault as fault:
-            return [("raw", string(str(fault)))]
+            return [("raw", string(voltages.WORDLESS.get(str(fault), str(fault))))]
         members = [("value", string(numbers.text(number))),
                    ("number", rounded(number, self.choice.digits))]
-        is_vout = entry.kind in ("vout", "vout_signed")
-        if is_vout and self.told.mode(address) == UNKNOWN:
+        if way.is_ratio:
+            members = [("ratio", string(numbers.text(number)))]
+        if self.is_assumed(device, entry):
             members.append(("mode", string("assumed")))
         return members
 
-    def number_format(self, device, entry):
-        if entry.kind in ("vout", "vout_signed"):
-            mode = self.known.mode(device.address)
-            if isinstance(mode, str):
-                raise numbers.Fault(mode)
-            names = {"Relative": "relative", "Vid": "vid", "Ieee": "ieee",
-                     "NoCoefficients": "coefficients"}
-            try:
-                signed = entry.kind == "vout_signed"
-                return numbers.vout_format(mode, signed, device.vout_direct)
-            except numbers.Fault as fault:
-                raise numbers.Fault(names[str(fault)]) from None
-        if entry.kind == "direct":
-            return entry.coefficients
-        if entry.exponent is not None:
-            return numbers.linear("linear11 fixed", entry.exponent)
-        return ("linear11",)
+    def way(self, device, entry):
+        """How a number is read; a fault where it can't be."""
+        if entry.is_voltage():
+            return voltages.way_of(self.known, device, entry)
+        return voltages.Way(entry.number_format(), False)
+
+    def is_assumed(self, device, entry):
+        """Whether a number rests on a VOUT_MODE that was not told."""
+        return entry.is_voltage() and self.told.mode(device.address) == UNKNOWN
 
     # packets
 

@@ -210,20 +210,24 @@ QUANTITIES = """
 9223372036854775806/2 1/4611686018427387903 1/4611686018427387904 2/9223372036854775806
 0.000000000000000000000001 0.0000000000000000000000010 0.0000000000000000000000001
 0.000000059604644775390625 0.0000000298023223876953125 1/33554432 2047/2 65535 65536
--32768 -32768.5
+-32768 -32768.5 65504 65504.1 -65504 -65505 -1/33554432 3/33554432 -3/33554432 2049 4097/2
+0.25 0.2525 0.2575 0.5 1.52 1.521 3.04 1.6 1.596875 1.590625 1.55 0.2 0.195 1.465 2.74 2.745
 """.split()
 CODES = """
 0000 0001 ba00 d300 8000 7bff 7c00 03ff 0400 0a00 0dff e801 ffff 7FFF 0032 12g4 123 12345
+0002 00b2 00b3 00d8 00d9 00ff 0100 0101 3c00 8001 fbff fc00 7e01 fdff
 """.split()
 FORMATS = """
 linear11 linear11:-3 linear11:0 linear11:15 linear11:-16 ulinear16:-9 ulinear16:15 slinear16:-9
 slinear16:-16 vout:17 vout:0F direct:3,2,1 direct:-1,0,-1 direct:6720,0,-1 direct:-32768,32767,9
-direct:7,-5,-9
+direct:7,-5,-9 half vid:vr11 vid:vr12 vid:vr13 vid:imvp9 vid:amd625mv vid:nvidia195mv udirect:3,2,1
+udirect:-1,0,0 udirect:-32768,32767,9
 """.split()
 BAD_FORMATS = """
 linear11:16 linear11:x linear11:128 linear11: ulinear16:-17 ulinear16 slinear16:+1 vout:97 vout:20
 vout:60 vout:40 vout:a0 vout:1 direct:0,0,10 direct:1,0,10 direct:1,0 direct:32768,0,0
-direct:1,0,-129 float LINEAR11
+direct:1,0,-129 float LINEAR11 HALF half: half:0 vid vid: vid:vr14 vid:VR12 VID:vr12 vid:vr12, udirect
+udirect:0,0,10 udirect:1,0,10 udirect:1,0 udirect:32768,0,0 uudirect:1,0,0
 """.split()
 
 # Captures, lines and requests after profiles that have commands of every form.
@@ -301,6 +305,38 @@ write 48 00; read 50 00; get 20 8b
 RAILS_REQUESTS = """
 get 40 8b; get 40 21; write 40 00 01; get 40 8b; get 40 21; set 40 21 3.3; get 40 21; read 40 20
 write 40 00 ff; set 40 21 1; write 40 20 14; set 40 21 1; write 40 00 00; get 40 21; read 40 8b
+"""
+
+
+# The same after a profile with VID tables, halves and DIRECT without a sign.
+VOLTS_CAPTURES = """
+S 40 A 8b A S 41 A 01 A 00 N P S 40 A 8b A S 41 A 00 A 00 N P S 40 A 8b A S 41 A 00 A 01 N P
+S 40 A 00 A 01 A P S 40 A 8b A S 41 A 00 A 3c N P S 40 A 8b A S 41 A 00 A 7c N P
+S 40 A 00 A 01 A P S 40 A 20 A 3f A P S 40 A 8b A S 41 A ff A 00 N P S 40 A 22 A 01 A 00 A P
+S 40 A 00 A ff A P S 40 A 21 A 01 A 00 A P S 40 A 20 A 21 A P S 40 A 21 A 01 A 00 A P
+S 40 A 00 A 02 A P S 40 A 21 A 01 A 00 A P S 40 A 25 A 01 A 00 A P
+S 40 A 20 A c0 A P S 40 A 8b A S 41 A ff A ff N P S 40 A 22 A ff A ff A P S 40 A 25 A ff A ff A P S 40 A 40 A ff A ff A P
+S 40 A 20 A a1 A P S 40 A 8b A S 41 A 05 A 00 N P S 40 A 25 A 05 A 00 A P S 40 A 26 A 05 A 00 A P
+S 40 A 20 A e0 A P S 40 A 40 A 66 A 3c A P S 40 A 40 A ff A 7f A P S 40 A 22 A 00 A c0 A P
+S 40 A 20 A 97 A P S 40 A 5e A cd A 01 A P S 40 A 48 A 00 A 02 A P S 40 A 25 A 00 A ff A P
+S 40 A e0 A 00 A 80 A P S 40 A e0 A ff A fb A P S 40 A e0 A 01 A fe A P S 40 A e1 A d8 A 00 A P S 40 A e1 A d9 A 00 A P
+S 40 A e2 A 00 A 80 A P S 40 A e3 A 00 A 80 A P S 40 A e4 A 00 A 80 A P S 40 A 89 A S 41 A 00 A 80 N P
+S 42 A 8b A S 43 A 01 A 00 N P S 42 A 8b A S 43 A 00 A 00 N P S 42 A 40 A 01 A 00 A P S 42 A 22 A 01 A 00 A P
+S 42 A 20 A 20 A P S 42 A 8b A S 43 A 01 A 00 N P S 42 A 8b A S 43 A 02 A 00 N P S 42 A 20 A 22 A P S 42 A 8b A S 43 A 02 A 00 N P
+S 42 A 20 A c0 A P S 42 A 8b A S 43 A 02 A 00 N P S 42 A 43 A 02 A 00 A P S 42 A 20 A 85 A P S 42 A 43 A 02 A 00 A P
+S 44 A 8b A S 45 A 00 A 00 N P S 44 A 21 A d9 A 00 A P S 44 A 20 A 3f A P S 44 A 8b A S 45 A d8 A 00 N P
+S 46 A 8b A S 47 A 01 A 00 N P S 46 A 00 A ff A P S 46 A 21 A ff A 00 A P S 46 A 20 A 40 A P S 46 A 21 A ff A ff A P
+S 48 A 8b A S 49 A 00 A 18 N P S 48 A 20 A 20 A P S 48 A 8b A S 49 A 01 A 00 N P S 48 A 20 A 60 A P S 48 A 8b A S 49 A 00 A 40 N P
+S 48 A 20 A 10 A P S 48 A 21 A 01 A 00 A P S 48 A 20 A 60 A P S 48 A 21 A 01 A 00 A P S 48 A 20 A 40 A P S 48 A 21 A 01 A 00 A P
+"""
+VOLTS_REQUESTS = """
+get 20 e0; set 20 e0 65504; get 20 e0; set 20 e0 65505; set 20 e0 1/33554432; read 20 e0; get 20 88
+get 20 e1; set 20 e1 1.546875; get 20 e1; set 20 e1 0.19; write 20 00 01; get 20 e1; set 20 e1 0.2; read 20 e1
+set 20 e2 127.998046875; read 20 e2; set 20 e2 128; set 20 e3 -1073741824; read 20 e3; get 20 e3
+get 20 e4; set 20 e4 65536; set 20 e4 -1; set 20 e4 32768; read 20 e4; call 20 30 e4 01; call 20 30 21 00
+get 20 21; write 20 00 01; get 20 21; write 20 20 40; set 20 21 32.767; get 20 21; set 20 21 32.768; set 20 22 -16; get 20 22
+write 20 e0 01 fc; get 20 e0; write 20 e1 00 01; get 20 e1; write 20 20 40; write 20 21 ff ff; get 20 21; set 20 25 -1; get 20 25
+get 21 21; write 21 20 20; set 21 21 1; write 22 20 e0; get 22 21; get 23 8b; write 23 20 40; set 23 21 1; get 23 21
 """
 
 
@@ -439,8 +475,14 @@ def rows_behind_profiles():
             found.append(([task, "--late"], unlike + capture))
             found.append(([task, "--late", "--fixed-vout-mode"], unlike + capture))
     found += [(["build"], unlike + line) for line in lines_of(UNLIKE_LINES)]
-    rails = profiles.RAILS_TEXT + b"%%\n"
-    for front, lists in ((unlike, UNLIKE_REQUESTS), (rails, RAILS_REQUESTS)):
+    rails, volts = profiles.RAILS_TEXT + b"%%\n", profiles.VOLTS_TEXT + b"%%\n"
+    for capture in lines_of(VOLTS_CAPTURES):
+        found += [([task], volts + capture) for task in ("show", "json", "log", "stats")]
+        found += [([task, "--late"], volts + capture) for task in ("json", "log")]
+        found += [(["log", "--digits", "0"], volts + capture), (["stats", "--json"], volts + capture)]
+    for front, lists in (
+        (unlike, UNLIKE_REQUESTS), (rails, RAILS_REQUESTS), (volts, VOLTS_REQUESTS),
+    ):
         for requests in lines_of(lists):
             found.append((["run"], front + requests.replace(b"; ", b"\n")))
     capture = example("profiles/two_rails.txt")

@@ -31,6 +31,9 @@ EVERY_FORM = {"device": [
                  paged=True),
             wide(0xE7, read="block", initial="aa55"),
             wide(0xE8, write="zero", call="two", paged=True),
+            wide(0xE9, write="two", read="two", kind="half", initial="01fe"),
+            wide(0xEA, write="two", read="two", kind="vid:vr12", paged=True),
+            wide(0xEB, write="two", read="two", kind="slinear16", exponent=-3),
         ],
     },
     {
@@ -43,6 +46,9 @@ EVERY_FORM = {"device": [
             wide(0xE1, write="four"),
             wide(0xE5, write="zero", read="two", paged=True),
             wide(0xE6, write="two", read="two", call="two"),
+            wide(0xE7, write="two", read="two", kind="ulinear16", exponent=2),
+            wide(0xE8, write="two", read="two", kind="direct", m=3, b=-7, r=0, unsigned=True),
+            wide(0xE9, write="two", read="two", kind="vid:vr11"),
         ],
     },
     {
@@ -63,7 +69,7 @@ BOARD = {"device": [
     },
     {
         "address": 0x41, "pec": "on", "pages": 4, "vout_mode": 0x40,
-        "vout_direct": {"m": 200, "b": -15, "r": 1},
+        "vout_direct": {"m": 200, "b": -15, "r": 1, "unsigned": True},
     },
     {
         "address": 0x10, "pec": "off", "standard": False,
@@ -106,6 +112,10 @@ def data(chance, entry, form):
         drawn[0] = chance.choice((0, 0, 0, 1, 1, 0xFF, 2, drawn[0]))
     if entry.code == 0x20 and drawn:
         drawn[0] = chance.choice((0x10, 0x13, 0x14, 0x17, 0x40, 0x1F, 0x0F, drawn[0]))
+    if entry.kind == "half" and drawn and chance.random() < 0.2:
+        drawn[1] |= 0x7C  # no number
+    if entry.kind.startswith("vid:") and drawn and chance.random() < 0.7:
+        drawn[1] = 0
     return drawn
 
 
@@ -140,12 +150,12 @@ def write(chance, profile):
 
 def set_value(chance, entry):
     """A quantity for a command, mostly one of its format's."""
-    if entry.kind == "direct" and entry.coefficients:
-        return quantity(chance, entry.coefficients)
-    if entry.kind in ("vout", "vout_signed"):
+    if entry.is_voltage():
         name = "ulinear16" if entry.kind == "vout" else "slinear16"
         return quantity(chance, (name, chance.choice((-16, -13, -12, -9, -1, 15))))
-    return quantity(chance, numbers.format_of(chance.choice(FORMATS)))
+    if entry.kind in ("linear11", "raw", "status") or chance.random() < 0.1:
+        return quantity(chance, numbers.format_of(chance.choice(FORMATS)))
+    return quantity(chance, entry.number_format())
 
 
 def call_data(chance, device, entry):

@@ -15,6 +15,8 @@ REASONS = ("ReadFirst", "BadRestart", "BadPec", "UnknownDevice", "UnknownCommand
 ORDERS = {"nacks": PLACES, "refusals": REASONS}
 WORDS = ("refusals", "bad-tokens", "nacks", "alerts", "faults", "none-read")
 NO_FAULTS = ("BUSY", "OFF", "POWER_GOOD_N")
+# Which values have a mean together: all linear ones and IEEE halves, and what is here.
+MEANS = {"direct": "direct", "udirect": "direct", "vid": "vid"}
 UNKNOWN_PAGE, NO_PAGES = ALL_PAGES + 1, ALL_PAGES + 2  # where these stand behind all pages
 
 
@@ -152,15 +154,15 @@ class Stats(Objects):
         if entry.kind in ("raw", "status") or not data:
             return
         try:
-            form = self.number_format(device, entry)
+            way = self.way(device, entry)
+            value = numbers.decode(way.form, data[0] + 256 * data[1])
         except numbers.Fault:
             return
-        is_vout = entry.kind in ("vout", "vout_signed")
-        is_assumed = is_vout and self.told.mode(address) == "unknown"
+        if way.is_ratio:
+            return
         found = self.counts_of(address).page(self.page_of(device, entry)).numbers
-        value = numbers.decode(form, data[0] + 256 * data[1])
-        kind = "direct" if form[0] == "direct" else "linear"
-        found.setdefault(code, Numbers(unit_of(entry))).see(value, kind, is_assumed)
+        several = found.setdefault(code, Numbers(unit_of(entry)))
+        several.see(value, MEANS.get(way.form[0], "linear"), self.is_assumed(device, entry))
 
     def status(self, address, code, data, time):
         """A read of a status register."""

@@ -3,7 +3,7 @@ place. A table is a dict here, an array a list; how TOML is read is not told."""
 
 import re
 
-from .numbers import Fault, direct
+from .numbers import TABLES, Fault, direct
 from .packets import SIZES
 from .profiles import STANDARD, Device, Entry, Profile
 
@@ -14,9 +14,14 @@ WORDS = {
     "read": ("none", "one", "two", "four", "eight", "block"),
     "call": ("none", "two", "block"),
 }
-KINDS = ("raw", "linear11", "vout", "vout_signed", "direct", "status")
-DEVICE_KEYS = ("address", "pec", "pages", "vout_mode", "standard", "vout_direct", "command", "name")
-COMMAND_KEYS = ("code", "name", *WORDS, "kind", "m", "b", "r", "exponent", "paged", "initial")
+ONE_EXPONENT = ("ulinear16", "slinear16")  # kinds that need an exponent
+KINDS = ("raw", "linear11", "vout", "vout_signed", "direct", "status", "half", *ONE_EXPONENT,
+         *("vid:" + table for table in TABLES))
+TYPES = [str(number) for number in range(32)]  # of VID tables, as keys
+DEVICE_KEYS = ("address", "pec", "pages", "vout_mode", "standard", "vout_direct", "command", "name",
+               "vid")
+COMMAND_KEYS = ("code", "name", *WORDS, "kind", "m", "b", "r", "exponent", "paged", "initial",
+                "unsigned")
 
 
 def need(holds, name):
@@ -86,12 +91,15 @@ def device_of(table, before, ignored):
     entries = CODED if value_of(table, "standard", bool, True) else {}
     vout_direct = None
     if "vout_direct" in table:
-        known_keys(table["vout_direct"], ("m", "b", "r"))
+        known_keys(table["vout_direct"], ("m", "b", "r", "unsigned"))
         vout_direct = coefficients(table["vout_direct"])
+        if value_of(table["vout_direct"], "unsigned", bool, False):
+            vout_direct = unsigned(vout_direct)
     value_of(table, "command", list)
     name = value_of(table, "name", str)
     need(name is None or re.fullmatch("[ -~]{1,32}", name), "BadName")
-    return Device(address, pec, entries, modes, vout_direct, name)
+    vid = vid_of(table["vid"], pages) if "vid" in table else None
+    return Device(address, pec, entries, modes, vout_direct, name, vid)
 
 
 def modes_of(value, pages):
@@ -104,6 +112,24 @@ def modes_of(value, pages):
     if type(value) is int:
         return [value] * pages
     need(len(value) == pages, "BadValue")
+    return value
+
+
+def vid_of(value, pages):
+    """The tables of VID codes: one, one for each page, or by the types of VOUT_MODE's bits 4:0."""
+    if type(value) is dict:
+        need(set(value) <= set(TYPES), "BadValue")
+        return {int(one): table_name(value[one]) for one in TYPES if one in value}
+    if type(value) is list:
+        names = [table_name(one) for one in value]
+        need(len(names) == pages, "BadValue")
+        return names
+    return table_name(value)
+
+
+def table_name(value):
+    need(type(value) is str, "WrongType")
+    need(value in TABLES, "BadValue")
     return value
 
 
@@ -121,6 +147,11 @@ def coefficients(table):
         need(least <= number <= most and (key, number) != ("m", 0), "BadCoefficients")
         numbers.append(number)
     return direct(*numbers)
+
+
+def unsigned(form):
+    """DIRECT with words that have no sign."""
+    return ("udirect", *form[1:])
 
 
 def with_command(device, device_table, place, table):
@@ -164,13 +195,18 @@ def command_of(table):
     for key in ("m", "b", "r"):
         value_of(table, key, int)
         need(key not in table or kind == "direct", "UnknownKey")
+    need("exponent" in table or kind not in ONE_EXPONENT, "MissingKey")
     exponent = value_of(table, "exponent", int)
-    need(exponent is None or kind == "linear11", "UnknownKey")
+    need(exponent is None or kind in ("linear11", *ONE_EXPONENT), "UnknownKey")
     need(exponent is None or -16 <= exponent <= 15, "BadValue")
     paged = value_of(table, "paged", bool, entry.paged)
     initial = table.get("initial")
     texts = initial if type(initial) is list else [initial]
     need("initial" not in table or all(type(text) is str for text in texts), "WrongType")
+    is_unsigned = value_of(table, "unsigned", bool)
+    need(is_unsigned is None or kind == "direct", "UnknownKey")
+    if is_unsigned:
+        entry = entry._replace(coefficients=unsigned(entry.coefficients))
     return entry._replace(exponent=exponent, paged=paged, initial=initial)
 
 

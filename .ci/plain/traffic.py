@@ -6,7 +6,9 @@ from .packets import Part, Read, Write
 
 PAGE, PAGE_PLUS_WRITE, VOUT_MODE = 0x00, 0x05, 0x20
 RESTORES = (0x12, 0x14, 0x16, 0x18)
-VOLTAGES = (0x21, 0x22, 0x24, 0x8B)
+VOLTAGES = (0x21, 0x22, 0x24, 0x25, 0x40, 0x42, 0x5F, 0x8B, 0x8B)
+# VID of three types, DIRECT and half precision, and the same with limits that are factors.
+MODES = (0x20, 0x21, 0x22, 0x60, 0x7F, 0x97, 0x97, 0x8F, 0xA0, 0xA1, 0xC0, 0xE0, 0xE0)
 TOLD = (PAGE, VOUT_MODE, VOUT_MODE, PAGE_PLUS_WRITE, *RESTORES, *VOLTAGES, *VOLTAGES)
 # Time lines, and what is nearly one; %d is a number that is drawn.
 COMMENTS = [
@@ -29,18 +31,34 @@ def data(chance, device, entry):
     if entry.code == PAGE:
         return (chance.choice((0, 0, 1, device.pages - 1, device.pages, 0xFF)),)
     if entry.code == VOUT_MODE:
-        return (chance.choice((*device.modes, 0x13, 0x14, 0x17, 0x40, 0x97)),)
+        return (chance.choice((*device.modes, 0x13, 0x14, 0x17, 0x40, 0x97, *MODES)),)
     if entry.code == PAGE_PLUS_WRITE:
         told = (0, chance.choice((0x20, 0x20, 0x21)), 0x13, 0x20)
         return told[: chance.randrange(5)]
     size = packets.SIZES.get(entry.write or entry.read, chance.randrange(4))
-    return tuple(chance.randrange(256) for _ in range(size))
+    some = [chance.randrange(256) for _ in range(size)]
+    if size == 2:
+        # Often a VID code, or an IEEE half that is no number.
+        some[1] = chance.choice((some[1], some[1], 0, 0, 0x7C, 0xFF))
+        some[0] = chance.choice((some[0], some[0], some[0], 0))
+    return tuple(some)
 
 
 def told(chance, profile):
     """A packet of a device that says something of PAGE and VOUT_MODE, or none."""
+    return packet(chance, profile, chance.choice(profile.devices), chance.choice(TOLD))
+
+
+def voltages(chance, profile):
+    """A text of packets of one device: PAGE, VOUT_MODE and voltages."""
     device = chance.choice(profile.devices)
-    entry = device.entry(chance.choice(TOLD))
+    codes = [chance.choice((PAGE, VOUT_MODE, VOUT_MODE, *VOLTAGES)) for _ in range(12)]
+    return "".join(packets.events_text(packet(chance, profile, device, code)) for code in codes)
+
+
+def packet(chance, profile, device, code):
+    """A packet that tells what a register holds, or none where a device has no such command."""
+    entry = device.entry(code)
     if entry is None:
         return []
     pec = device.pec == "on" or (device.pec == "optional" and chance.random() < 0.3)

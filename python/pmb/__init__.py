@@ -82,6 +82,9 @@ _FAULTS = {
     12: "BadDigit",
     13: "ZeroDenominator",
     14: "TooLarge",
+    22: "NotANumber",
+    23: "NoCode",
+    24: "Off",
 }
 _OK, _NO_NAME, _NO_ROOM, _BAD_PROFILE, _NO_MEMORY, _BAD_CHOICE = 0, 15, 16, 17, 18, 19
 _NO_EVENT, _BAD_TOKEN = 20, 21
@@ -99,7 +102,12 @@ _PROFILE_FAULTS = (
     "UnknownName BadName BadForm BadCoefficients CodeTwice BadInitial"
 ).split()
 
+# The kinds of formats, by the library's numbers.
 _LINEAR11, _LINEAR11_FIXED, _ULINEAR16, _SLINEAR16, _DIRECT, _VOUT, _VOUT_SIGNED = range(7)
+_HALF, _VID, _UDIRECT = 7, 8, 9
+
+# The VID tables, by the library's numbers.
+_TABLES = ("vr11", "vr12", "vr13", "imvp9", "amd625mv", "nvidia195mv")
 
 
 class Error(ValueError):
@@ -262,8 +270,9 @@ class Format(NamedTuple):
     @classmethod
     def parse(cls, text: str) -> "Format":
         """The format that a text names: `linear11`, `linear11:E`, `ulinear16:E`, `slinear16:E`,
-        `vout:HH` or `direct:M,B,R`. E is the exponent of two, HH a VOUT_MODE in two hexadecimal
-        digits, and M, B and R are DIRECT's coefficients.
+        `vout:HH`, `half`, `vid:TABLE`, `direct:M,B,R` or `udirect:M,B,R`. E is the exponent of two,
+        HH a VOUT_MODE in two hexadecimal digits, TABLE a VID table, and M, B and R are DIRECT's
+        coefficients. The words of `udirect` have no sign.
 
         Any other text, or a number of more than 8 bits (16 for M and B), is a `BadFormat`.
 
@@ -275,26 +284,60 @@ class Format(NamedTuple):
             raise _wrong_type("format", "a str or a pmb.Format", text)
         if text == "linear11":
             return cls(_LINEAR11)
+        if text == "half":
+            return cls.half()
         kinds = {"linear11": _LINEAR11_FIXED, "ulinear16": _ULINEAR16, "slinear16": _SLINEAR16}
         kind, colon, numbers = text.partition(":")
         if colon and kind in kinds:
             return cls(kinds[kind], exponent=_integer(numbers, 8))
         if colon and kind == "vout" and re.fullmatch("[0-9A-Fa-f]{2}", numbers):
             return cls.vout(int(numbers, 16))
-        if colon and kind == "direct" and numbers.count(",") == 2:
+        if colon and kind == "vid":
+            return cls.vid(numbers)
+        if colon and kind in ("direct", "udirect") and numbers.count(",") == 2:
             m, b, r = numbers.split(",")
-            return cls.direct(_integer(m, 16), _integer(b, 16), _integer(r, 8))
+            return cls.direct(
+                _integer(m, 16), _integer(b, 16), _integer(r, 8), unsigned=kind == "udirect"
+            )
         raise Error("BadFormat", "format")
 
     @classmethod
-    def direct(cls, m: int, b: int, r: int) -> "Format":
-        """DIRECT: a word Y is worth (Y * 10^-r - b) / m. m is not 0, and r is from -9 to 9.
+    def half(cls) -> "Format":
+        """IEEE 754 half precision (binary16).
+
+            >>> import pmb
+            >>> hex(pmb.encode(pmb.Format.half(), 12))
+            '0x4a00'
+        """
+        return cls(_HALF)
+
+    @classmethod
+    def vid(cls, table: str) -> "Format":
+        """The codes of a VID table: `vr11`, `vr12`, `vr13`, `imvp9`, `amd625mv` or `nvidia195mv`.
+        Another name is a `BadFormat`.
+
+            >>> import pmb
+            >>> hex(pmb.encode(pmb.Format.vid("vr12"), 1))
+            '0x97'
+        """
+        if not isinstance(table, str):
+            raise _wrong_type("table", "a str", table)
+        if table not in _TABLES:
+            raise Error("BadFormat", "format")
+        return cls(_VID, mode=_TABLES.index(table))
+
+    @classmethod
+    def direct(cls, m: int, b: int, r: int, unsigned: bool = False) -> "Format":
+        """DIRECT: a word Y is worth (Y * 10^-r - b) / m. m is not 0, and r is from -9 to 9. Y has a
+        sign, as the standard has it, or with `unsigned` none.
 
             >>> import pmb
             >>> pmb.decode(pmb.Format.direct(3, 2, 1), 0)
             Fraction(-2, 3)
+            >>> pmb.decode(pmb.Format.direct(1, 0, 0, unsigned=True), 0xffff)
+            Fraction(65535, 1)
         """
-        return cls(_DIRECT, m=m, b=b, r=r)
+        return cls(_UDIRECT if unsigned else _DIRECT, m=m, b=b, r=r)
 
     @classmethod
     def vout(
@@ -302,6 +345,7 @@ class Format(NamedTuple):
     ) -> "Format":
         """The format that a VOUT_MODE names, for a command whose linear words are unsigned, as
         VOUT_COMMAND, or signed, as VOUT_TRIM; with the coefficients of a DIRECT format, if any.
+        Where these are for words without a sign, they are so for an unsigned command alone.
 
             >>> import pmb
             >>> pmb.decode(pmb.Format.vout(0x17, signed=True), 0xffff)
@@ -314,6 +358,10 @@ class Format(NamedTuple):
             raise _wrong_type("direct", "a pmb.Format", direct)
         if direct is None:
             return cls(kind, mode=mode)
+        if direct.kind == _UDIRECT and not signed and direct.m != 0:
+            # (the library's VOUT_MODE has coefficients for words with a sign alone)
+            if _index("mode of format", mode) >> 5 == 2:
+                return direct
         return cls(kind, mode=mode, m=direct.m, b=direct.b, r=direct.r)
 
 
@@ -484,7 +532,7 @@ def encode(format: Union[str, Format], quantity: Number) -> int:
         number = _quantity(quantity)
     except Error as error:
         # The format's fault comes before the quantity's.
-        _raise_fault(_LIBRARY.pmb_decode(ctypes.byref(named), 0, ctypes.byref(_Quantity())))
+        _raise_format_fault(named)
         if isinstance(quantity, str) or error.fault != "TooLarge":
             raise
         number = _as_near(_exact(quantity), _unit(named))
@@ -496,23 +544,24 @@ def decode(format: Union[str, Format], code: int) -> Fraction:
     """The exact value of a code of two bytes.
 
     Raises an `Error` with what is wrong with the format, or `BadCode` for a code that is not from 0
-    to 65535.
+    to 65535, or else why the code has no value: `NotANumber` in half precision, `NoCode` or `Off` in
+    a VID table.
 
         >>> import pmb
         >>> value = pmb.decode("linear11", 0xd301)
         >>> value, float(value), f"{float(value):.3f}"
         (Fraction(769, 64), 12.015625, '12.016')
+        >>> pmb.decode("vid:vr12", 0)
+        Traceback (most recent call last):
+        pmb.Error: Off in code
     """
     named = _format(format)
     quantity = _Quantity()
     number = _index("code", code)
-    in_range = 0 <= number < 1 << 16
-    status = _LIBRARY.pmb_decode(
-        ctypes.byref(named), number if in_range else 0, ctypes.byref(quantity)
-    )
-    _raise_fault(status)
-    if not in_range:
+    if not 0 <= number < 1 << 16:
+        _raise_format_fault(named)
         raise Error("BadCode", "code")
+    _raise_fault(_LIBRARY.pmb_decode(ctypes.byref(named), number, ctypes.byref(quantity)))
     return Fraction(quantity.numerator, quantity.denominator)
 
 
@@ -1103,8 +1152,14 @@ def _exact(quantity: Any) -> Fraction:
 
 def _unit(named: _Format) -> Fraction:
     """A number of which each value of a format is a multiple, by less than 2^47 in size."""
-    if named.kind == _DIRECT or named.kind in (_VOUT, _VOUT_SIGNED) and named.mode >> 5 == 2:
+    in_mode = named.kind in (_VOUT, _VOUT_SIGNED) and named.mode >> 5 == 2
+    if named.kind in (_DIRECT, _UDIRECT) or in_mode:
         return Fraction(1, abs(named.m) * 10 ** max(named.r, 0))
+    if named.kind == _HALF:
+        return Fraction(1, 1 << 24)
+    if named.kind == _VID:
+        # (volts are a hundredth, a 160th or a 200th of a whole number)
+        return Fraction(1, 800)
     # (y * 2^n with n from -16 on)
     return Fraction(1, 1 << 16)
 
@@ -1137,5 +1192,17 @@ def _quantity(quantity: Number) -> _Quantity:
 
 def _raise_fault(status: int) -> None:
     if status != _OK:
-        place = "format" if 3 <= status <= 10 else "quantity"
+        place = "format" if _is_of_format(status) else "code" if status >= 22 else "quantity"
         raise Error(_FAULTS[status], place)
+
+
+def _raise_format_fault(named: _Format) -> None:
+    """Raises what is wrong with a format, if anything is."""
+    nothing = _Quantity(0, 0)
+    status = _LIBRARY.pmb_encode(ctypes.byref(named), nothing, ctypes.byref(ctypes.c_uint16()))
+    if _is_of_format(status):
+        _raise_fault(status)
+
+
+def _is_of_format(status: int) -> bool:
+    return 3 <= status <= 10

@@ -49,7 +49,9 @@ _Reason = Literal[
     "Truncated",
 ]
 _EventName = Literal["Start", "Byte", "Ack", "Nack", "Stop"]
-_Raw = Literal["unknown", "page", "relative", "vid", "ieee", "coefficients"]
+_Raw = Literal[
+    "unknown", "page", "relative", "vid", "coefficients", "nan", "code", "off"
+]
 
 # ---- what several kinds have: of a class with `total=False`, the keys that may be left out
 
@@ -80,6 +82,7 @@ class _Page(_Name, total=False):
 class _Number(TypedDict, total=False):
     value: str
     number: float
+    ratio: str
     mode: Literal["assumed"]
     raw: _Raw
 

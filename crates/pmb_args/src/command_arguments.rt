@@ -71,8 +71,9 @@ pub(crate) fn format_word<'a>(alloc: Global) -> Arg<'a>
     required_word(
         alloc,
         "FORMAT",
-        "linear11, linear11:E, ulinear16:E, slinear16:E, vout:HH or direct:M,B,R: E is the \
-         exponent, HH VOUT_MODE in two hexadecimal digits, and M, B, R are DIRECT's coefficients",
+        "linear11, linear11:E, ulinear16:E, slinear16:E, half, direct:M,B,R, udirect:M,B,R, vid:TABLE \
+         or vout:HH: E is the exponent, M, B, R are DIRECT's coefficients, TABLE is vr11, vr12, vr13, \
+         imvp9, amd625mv or nvidia195mv, and HH VOUT_MODE in two hexadecimal digits",
     )
 }
 

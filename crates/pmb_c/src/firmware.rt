@@ -49,7 +49,7 @@ pub extern "C" fn pmb_encode(format: &PmbFormat, quantity: PmbQuantity, code: &m
     pmb_firmware::encode(format, quantity, code)
 }
 
-/// Writes the exact value of a code, or tells why there is none.
+/// Writes the exact value of a code, or tells what is wrong with the format or why the code has none.
 #[unsafe(no_mangle)]
 pub extern "C" fn pmb_decode(format: &PmbFormat, code: u16, quantity: &mut PmbQuantity) -> i32
     ensures { Decodes (named format.now) code quantity.old result quantity.new }

@@ -1,19 +1,14 @@
 -- What the test of a command's parts says of each of them: that a command that fits keeps each
 -- rule. For `standard`, `by_name` and the laws on the standard commands. The test is a
 -- conjunction, taken apart from the front.
-use Rattle.std.proofs.Common.{◌≡◌, Bool, true, false, ℤ, pos, negsuc, not, ◌&&◌, ◌||◌, nat_eq, refl, subst, sym}
-use Rattle.std.specs.Prelude.{int_le}
+use Rattle.std.proofs.Common.{◌≡◌, Bool, true, false, not, ◌&&◌, ◌||◌, nat_eq, refl, subst, sym}
 use Rattle.std.proofs.lemmas.Bool.{and_parts}
-use Rattle.std.proofs.lemmas.Float.{T_from_true}
-use Rattle.std.specs.Int.Signed.{le_z_yes}
-use Rattle.pmb_coefficients.specs.Exponent.{IsExponent}
 use Rattle.pmb_command.specs.declared.entry.Kind.{Kind}
-use Rattle.pmb_command.specs.declared.entry.Kind.TheVariants.{Raw, Linear11, Linear11Fixed, Vout, VoutSigned, Direct}
-use Rattle.pmb_command.specs.declared.entry.Kind.TheVariants.{Status}
-use Rattle.pmb_command.specs.Bus.{IsFitting}
+use Rattle.pmb_command.specs.declared.entry.Kind.TheVariants.{Raw, Number, Vout, VoutSigned, Status}
+use Rattle.pmb_command.specs.Bus.{IsFitting, KeepsRanges}
 use Rattle.pmb_command.specs.Commands.{standard_entry}
 use Rattle.pmb_command.specs.Entry.{EntryParts}
-use Rattle.pmb_command.specs.Fitting.{are_kept, calls_fit, exponent_fits, has_form, is_always_raw, is_exponent}
+use Rattle.pmb_command.specs.Fitting.{are_kept, calls_fit, has_form, is_always_raw}
 use Rattle.pmb_command.specs.Fitting.{is_fitting, is_fixed, is_raw, kind_fits, reads_data, value_form, ways_agree}
 
 -- where a test excuses or asks, what it asks for holds wherever it doesn't excuse
@@ -24,11 +19,9 @@ asked false fits holds is = cc
 -- the kind that the test takes
 raw_kind : (kind : Kind) → is_raw kind ≡ true → kind ≡ Raw
 raw_kind Raw is = refl
-raw_kind Linear11 is = cc
-raw_kind (Linear11Fixed exponent) is = cc
+raw_kind (Number format) is = cc
 raw_kind Vout is = cc
 raw_kind VoutSigned is = cc
-raw_kind (Direct d) is = cc
 raw_kind Status is = cc
 
 -- what is not both is not the second where it is the first
@@ -37,16 +30,8 @@ not_both true true holds is = cc
 not_both true false holds is = refl
 not_both false b holds is = cc
 
--- an exponent that the test takes is one
-taken_exponent : (kind : Kind) → exponent_fits kind ≡ true → (exponent : ℤ) → kind ≡ Linear11Fixed exponent
-    → IsExponent exponent
-taken_exponent kind fits exponent is =
-    let both : is_exponent exponent ≡ true = subst (λ k. exponent_fits k ≡ true) is fits in
-    let bounds = and_parts (int_le (negsuc 15) exponent) (int_le exponent (pos 15)) both in
-    (le_z_yes (T_from_true _ bounds.0), le_z_yes (T_from_true _ bounds.1))
-
-pub fitting_parts : (e : EntryParts) → is_fitting e ≡ true → IsFitting e
-fitting_parts e fits =
+pub fitting_parts : (e : EntryParts) → is_fitting e ≡ true → KeepsRanges e.kind → IsFitting e
+fitting_parts e fits ranges =
     -- each part of the test
     let some_form = has_form e.shape in
     let one_form = ways_agree e.shape.write e.shape.read in
@@ -56,17 +41,15 @@ fitting_parts e fits =
     let raw = not (is_always_raw e.code) || is_raw e.kind in
     let page = not (nat_eq e.code 0x00 && e.paged) in
     let kind = kind_fits e.kind (value_form e.shape) in
-    let exponent = exponent_fits e.kind in
     -- the conjunction, taken apart from the front
     let one = and_parts some_form (one_form &&
-    (read_data && (call_form && (fixed && (raw && (page && (kind && exponent))))))) fits in
-    let two = and_parts one_form (read_data && (call_form && (fixed && (raw && (page && (kind && exponent)))))) one.1 in
-    let three = and_parts read_data (call_form && (fixed && (raw && (page && (kind && exponent))))) two.1 in
-    let four = and_parts call_form (fixed && (raw && (page && (kind && exponent)))) three.1 in
-    let five = and_parts fixed (raw && (page && (kind && exponent))) four.1 in
-    let six = and_parts raw (page && (kind && exponent)) five.1 in
-    let seven = and_parts page (kind && exponent) six.1 in
-    let eight = and_parts kind exponent seven.1 in
+    (read_data && (call_form && (fixed && (raw && (page && kind)))))) fits in
+    let two = and_parts one_form (read_data && (call_form && (fixed && (raw && (page && kind))))) one.1 in
+    let three = and_parts read_data (call_form && (fixed && (raw && (page && kind)))) two.1 in
+    let four = and_parts call_form (fixed && (raw && (page && kind))) three.1 in
+    let five = and_parts fixed (raw && (page && kind)) four.1 in
+    let six = and_parts raw (page && kind) five.1 in
+    let seven = and_parts page kind six.1 in
     record {
       some_form = one.0;
       one_form = two.0;
@@ -76,6 +59,6 @@ fitting_parts e fits =
       raw = λ is. raw_kind e.kind (asked (is_always_raw e.code) (is_raw e.kind) six.0 is);
       -- 0x00 is PAGE, which is never paged
       page = λ is. not_both (nat_eq e.code 0x00) e.paged seven.0 (subst (λ c. nat_eq c 0x00 ≡ true) (sym is) refl);
-      kind = eight.0;
-      exponent = taken_exponent e.kind eight.1;
+      kind = seven.1;
+      ranges = ranges;
     }

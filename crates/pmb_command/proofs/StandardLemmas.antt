@@ -11,10 +11,15 @@ use Rattle.std.proofs.lemmas.Bool.{eqb-true, ltb-true}
 use Rattle.std.proofs.lemmas.Slice.Eq.{bytes_eq-Decides}
 use Rattle.pmb_command.specs.Entry.{EntryParts}
 use Rattle.pmb_command.specs.Commands.{code_of_name, from_to, has_name, standard_entries, standard_entry, standard_rows}
-use Rattle.pmb_command.specs.Bus.{IsFitting}
+use Rattle.pmb_value.specs.NumberFormat.{IsFormat}
+use Rattle.pmb_value.specs.declared.number_format.NumberFormat.{NumberFormat}
+use Rattle.pmb_value.specs.declared.number_format.NumberFormat.TheVariants as formats
+use Rattle.pmb_command.specs.declared.entry.Kind.{Kind}
+use Rattle.pmb_command.specs.declared.entry.Kind.TheVariants.{Raw, Number, Vout, VoutSigned, Status}
+use Rattle.pmb_command.specs.Bus.{IsFitting, KeepsRanges}
 use Rattle.pmb_command.specs.Fitting.{is_fitting}
 use Rattle.pmb_command.specs.Names.{IsNameOf, is_name}
-use Rattle.pmb_command.specs.Standard.{IsNamed, IsStandardAt, is_general}
+use Rattle.pmb_command.specs.Standard.{IsNamed, IsStandardAt, is_general, is_linear11}
 use Rattle.pmb_command.proofs.FittingLemmas.{fitting_parts}
 use Rattle.pmb_command.proofs.NameLemmas.{fitting_name}
 use Rattle.pmb_command.proofs.Finding.{find_among, find_passes, option_map-cond}
@@ -81,13 +86,29 @@ standard_below c e has = subst (λ n. n < 256) (standard_code c e has)
 standard_name : (c : ℕ) (e : EntryParts) → standard_entry c ≡ Some e → IsNameOf e.code e.name
 standard_name c e has = fitting_name e.name (of_each name_fits every_name_fits c e has) e.code
 
--- the parts of an entry go together
-standard_fits : (c : ℕ) (e : EntryParts) → standard_entry c ≡ Some e → IsFitting e
-standard_fits c e has = fitting_parts e (of_each is_fitting every_entry_fits c e has)
-
 -- no standard command has a kind that needs a device's numbers
 pub standard_is_general : (c : ℕ) (e : EntryParts) → standard_entry c ≡ Some e → is_general e.kind ≡ true
 standard_is_general c e has = of_each (λ e. is_general e.kind) every_kind_is_general c e has
+
+-- such a kind has no exponent and no coefficients
+general_format : (format : NumberFormat) → is_linear11 format ≡ true → IsFormat format
+general_format formats.Linear11 is = tt
+general_format (formats.Linear11Fixed exponent) is = cc is
+general_format (formats.Word format) is = cc is
+general_format formats.Half is = tt
+general_format (formats.Vid table) is = tt
+
+general_ranges : (kind : Kind) → is_general kind ≡ true → KeepsRanges kind
+general_ranges Raw is = tt
+general_ranges (Number format) is = general_format format is
+general_ranges Vout is = tt
+general_ranges VoutSigned is = tt
+general_ranges Status is = tt
+
+-- the parts of an entry go together
+standard_fits : (c : ℕ) (e : EntryParts) → standard_entry c ≡ Some e → IsFitting e
+standard_fits c e has =
+    fitting_parts e (of_each is_fitting every_entry_fits c e has) (general_ranges e.kind (standard_is_general c e has))
 
 -- the entries of all codes, in order, are those of the table
 pub entries_of_all_codes : filter_map standard_entry (from_to 0x00 0xff) ≡ standard_entries

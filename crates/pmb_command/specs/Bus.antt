@@ -1,15 +1,16 @@
 -- What an accepted bus is.
-use Rattle.std.specs.Prelude.{◌≡◌, ◌≢◌, ℕ, ℤ, ◌<◌, ◌≤◌, true, false, IfSome, Option, Some, None, List, length}
+use Rattle.std.specs.Prelude.{◌≡◌, ◌≢◌, ℕ, ◌<◌, ◌≤◌, true, false, IfSome, Option, Some, None, List, length}
 use Rattle.std.specs.List.{AllByRecursion}
-use Rattle.pmb_coefficients.specs.Exponent.{IsExponent}
-use Rattle.pmb_command.specs.declared.entry.Kind.TheVariants.{Raw, Linear11Fixed}
+use Rattle.pmb_value.specs.NumberFormat.{IsFormat}
+use Rattle.pmb_command.specs.declared.entry.Kind.{Kind}
+use Rattle.pmb_command.specs.declared.entry.Kind.TheVariants.{Raw, Number, Vout, VoutSigned, Status}
 use Rattle.pmb_command.specs.Entry.{EntryParts}
 use Rattle.pmb_command.specs.Commands.{standard_entry}
 use Rattle.pmb_command.specs.Fitting.{are_kept, calls_fit, has_form, is_always_raw, is_fixed, is_length, kind_fits}
 use Rattle.pmb_command.specs.Fitting.{reads_data, register_form, value_form, ways_agree}
 use Rattle.pmb_command.specs.Names.{IsDeviceName, IsNameOf}
 use Rattle.pmb_command.specs.Parts.{CommandParts, DeviceParts, HaveOwnAddresses, HaveOwnCodes, InitialParts, Same, Each}
-use Rattle.pmb_command.specs.Parts.{all_same, has_one_mode}
+use Rattle.pmb_command.specs.Parts.{VidParts, OfPages, OfTypes, all_same, has_one_mode}
 
 -- An address that a device may have (SMBus 3.0 appendix C): 08h to 77h, and not 0ch, the Alert
 -- Response Address.
@@ -17,6 +18,14 @@ pub record IsDeviceAddress (address : ℕ) : Type 0 where
   pub least : 0x08 ≤ address
   pub greatest : address ≤ 0x77
   pub no_alert : address ≢ 0x0c
+
+-- The number format of a kind has an exponent or coefficients in their ranges.
+abbrev pub KeepsRanges : Kind → Type 0
+KeepsRanges Raw = Unit {0}
+KeepsRanges (Number format) = IsFormat format
+KeepsRanges Vout = Unit {0}
+KeepsRanges VoutSigned = Unit {0}
+KeepsRanges Status = Unit {0}
 
 -- The forms, the kind and the pages of a command go together.
 pub record IsFitting (e : EntryParts) : Type 0 where
@@ -37,8 +46,8 @@ pub record IsFitting (e : EntryParts) : Type 0 where
   pub page : e.code ≡ 0x00 → e.paged ≡ false
   -- numbers have two bytes, status registers one or two
   pub kind : kind_fits e.kind (value_form e.shape) ≡ true
-  -- an exponent that is fixed is one of LINEAR11's, from -16 to 15
-  pub exponent : (exponent : ℤ) → e.kind ≡ Linear11Fixed exponent → IsExponent exponent
+  -- an exponent that is fixed is from -16 to 15, and coefficients make a format
+  pub ranges : KeepsRanges e.kind
 
 -- The bytes that a command holds at first on a page: PAGE and VOUT_MODE are given none, nor is a command
 -- without a register, and they are as many as its form has.
@@ -58,6 +67,12 @@ abbrev pub HasItemForEach : ℕ → Option InitialParts → Type 0
 HasItemForEach pages None = Unit
 HasItemForEach pages (Some (Same bytes)) = Unit
 HasItemForEach pages (Some (Each items)) = length items ≡ pages
+
+-- There is a table of VID for each page, or an item for each of the 32 types.
+abbrev pub HasTableForEach : ℕ → Option VidParts → Type 0
+HasTableForEach pages None = Unit
+HasTableForEach pages (Some (OfPages tables)) = length tables ≡ pages
+HasTableForEach pages (Some (OfTypes tables)) = length tables ≡ 32
 
 -- A command that a device may have: a code, a name, and parts that go together.
 pub record IsEntry (e : EntryParts) : Type 0 where
@@ -81,6 +96,7 @@ pub record IsDevice (d : DeviceParts) : Type 0 where
   pub mode_of_each : length d.modes ≡ d.pages
   pub bytes : AllByRecursion (λ mode. mode < 256) d.modes
   pub one_mode : has_one_mode d.commands ≡ true → all_same d.modes ≡ true
+  pub tables : HasTableForEach d.pages d.vid
   pub own_codes : HaveOwnCodes d.commands
   pub commands : AllByRecursion IsCommand d.commands
   -- what commands hold at first is told for each page, if by items

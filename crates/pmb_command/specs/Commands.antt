@@ -4,11 +4,12 @@ use Rattle.std.specs.Prelude.{ℕ, ◌+◌, ◌-◌, ◌==◌, Bool, false, Opti
 use Rattle.std.specs.Prelude.{map, find, codes}
 use Rattle.std.specs.List.{list_any, range_with_len}
 use Rattle.std.specs.Str.{bytes_eq}
+use Rattle.pmb_value.specs.declared.number_format.NumberFormat.TheVariants.{Linear11}
 use Rattle.pmb_command.specs.declared.form.Form.{Form}
 use Rattle.pmb_command.specs.declared.form.Form.TheVariants.{Zero, One, Two, Block}
 use Rattle.pmb_command.specs.declared.form.Shape.{Shape}
 use Rattle.pmb_command.specs.declared.entry.Kind.{Kind}
-use Rattle.pmb_command.specs.declared.entry.Kind.TheVariants.{Raw, Linear11, Vout, VoutSigned, Status}
+use Rattle.pmb_command.specs.declared.entry.Kind.TheVariants.{Raw, Number, Vout, VoutSigned, Status}
 use Rattle.pmb_command.specs.Entry.{EntryParts}
 
 -- A row of the standard's table: a command's code, its name, and the forms in which it is written,
@@ -250,7 +251,7 @@ default_kind code =
     if is_among vout_codes code then Vout
     else if is_among vout_signed_codes code then VoutSigned
     else if is_among status_codes code then Status
-    else if is_among linear11_codes code then Linear11
+    else if is_among linear11_codes code then Number Linear11
     else Raw
 
 -- a row as an entry, with its defaults

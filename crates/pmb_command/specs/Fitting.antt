@@ -1,13 +1,12 @@
 -- Whether the forms, the kind and the pages of a command go together.
-use Rattle.std.specs.Prelude.{ℕ, ℤ, pos, negsuc, Bool, true, false, not, if◌then◌else◌, ◌&&◌, ◌||◌, is_some, Option}
-use Rattle.std.specs.Prelude.{Some, None, [], ◌∷◌, nat_eq, nat_le, int_le}
+use Rattle.std.specs.Prelude.{ℕ, Bool, true, false, not, if◌then◌else◌, ◌&&◌, ◌||◌, is_some, Option}
+use Rattle.std.specs.Prelude.{Some, None, [], ◌∷◌, nat_eq, nat_le}
 use Rattle.std.specs.List.{list_any}
 use Rattle.pmb_command.specs.declared.form.Form.{Form}
 use Rattle.pmb_command.specs.declared.form.Form.TheVariants.{Zero, One, Two, Four, Eight, Block}
 use Rattle.pmb_command.specs.declared.form.Shape.{Shape}
 use Rattle.pmb_command.specs.declared.entry.Kind.{Kind}
-use Rattle.pmb_command.specs.declared.entry.Kind.TheVariants.{Raw, Linear11, Linear11Fixed, Vout, VoutSigned, Direct}
-use Rattle.pmb_command.specs.declared.entry.Kind.TheVariants.{Status}
+use Rattle.pmb_command.specs.declared.entry.Kind.TheVariants.{Raw, Number, Vout, VoutSigned, Status}
 use Rattle.pmb_command.specs.Entry.{EntryParts}
 use Rattle.pmb_command.specs.Commands.{standard_entry}
 
@@ -68,21 +67,17 @@ is_always_raw code = list_any (nat_eq code) (0x00 ∷ 0x03 ∷ 0x20 ∷ 0x30 ∷
 -- the data are bytes with no number in them
 abbrev pub is_raw : Kind → Bool
 is_raw Raw = true
-is_raw Linear11 = false
-is_raw (Linear11Fixed exponent) = false
+is_raw (Number format) = false
 is_raw Vout = false
 is_raw VoutSigned = false
-is_raw (Direct d) = false
 is_raw Status = false
 
 -- the data are status bits
 abbrev pub is_status_kind : Kind → Bool
 is_status_kind Raw = false
-is_status_kind Linear11 = false
-is_status_kind (Linear11Fixed exponent) = false
+is_status_kind (Number format) = false
 is_status_kind Vout = false
 is_status_kind VoutSigned = false
-is_status_kind (Direct d) = false
 is_status_kind Status = true
 
 -- the form of a command's value: in which it is read, or else written
@@ -97,26 +92,10 @@ is_form form (Some other) = same_form form other
 -- numbers have two bytes, status registers one or two
 abbrev pub kind_fits : Kind → Option Form → Bool
 kind_fits Raw form = true
-kind_fits Linear11 form = is_form Two form
-kind_fits (Linear11Fixed exponent) form = is_form Two form
+kind_fits (Number format) form = is_form Two form
 kind_fits Vout form = is_form Two form
 kind_fits VoutSigned form = is_form Two form
-kind_fits (Direct d) form = is_form Two form
 kind_fits Status form = is_form One form || is_form Two form
-
--- a whole number is an exponent of LINEAR11, of five bits in two's complement
-abbrev pub is_exponent : ℤ → Bool
-is_exponent exponent = int_le (negsuc 15) exponent && int_le exponent (pos 15)
-
--- an exponent that is fixed is one
-abbrev pub exponent_fits : Kind → Bool
-exponent_fits Raw = true
-exponent_fits Linear11 = true
-exponent_fits (Linear11Fixed exponent) = is_exponent exponent
-exponent_fits Vout = true
-exponent_fits VoutSigned = true
-exponent_fits (Direct d) = true
-exponent_fits Status = true
 
 -- the forms, the kind and the pages of a command go together
 abbrev pub is_fitting : EntryParts → Bool
@@ -128,8 +107,7 @@ is_fitting e =
     && ((not (is_fixed e.code) || are_kept e.shape (standard_entry e.code))
     && ((not (is_always_raw e.code) || is_raw e.kind)
     && (not (nat_eq e.code 0x00 && e.paged)
-    && (kind_fits e.kind (value_form e.shape)
-    && exponent_fits e.kind)))))))
+    && kind_fits e.kind (value_form e.shape)))))))
 
 -- the form of a command's register, which has a value to begin with: read, or written with data
 abbrev pub register_form : Shape → Option Form

@@ -2,6 +2,7 @@
 use Rattle.std.specs.Prelude.{◌≡◌, ℕ, Bool, true, false, not, Option, Some, None, List, [], ◌∷◌, map, nat_eq, slice_get}
 use Rattle.std.specs.List.{IsDistinct, find, list_all, list_any}
 use Rattle.pmb_coefficients.specs.Coefficients.{Coefficients}
+use Rattle.pmb_vid.specs.declared.table.VidTable.{VidTable}
 use Rattle.pmb_command.specs.declared.pec_mode.PecMode.{PecMode}
 use Rattle.pmb_command.specs.Entry.{EntryParts}
 
@@ -22,8 +23,14 @@ pub record CommandParts : Type 0 where
   pub entry : EntryParts
   pub initial : Option InitialParts
 
--- a device of a bus; `name` where the profile gives one, and `modes` is VOUT_MODE of each page at
--- first, from page 0 on
+-- The tables of VID that a device's output voltages are in: one for each page, from page 0 on; or one for
+-- each type from 0 to 31 that bits 4:0 of VOUT_MODE name, where it has one.
+pub data VidParts : Type 0 where
+  OfPages : List VidTable → VidParts
+  OfTypes : List (Option VidTable) → VidParts
+
+-- a device of a bus; `name` where the profile gives one, `modes` is VOUT_MODE of each page at first,
+-- from page 0 on, and `vid` are the tables of VID, where the profile tells them
 pub record DeviceParts : Type 0 where
   pub address : ℕ
   pub name : Option (List ℕ)
@@ -31,6 +38,7 @@ pub record DeviceParts : Type 0 where
   pub pages : ℕ
   pub modes : List ℕ
   pub vout_direct : Option Coefficients
+  pub vid : Option VidParts
   pub commands : List CommandParts
 
 -- the command with a code

@@ -1,24 +1,31 @@
 -- What holds of the standard commands.
 use Rattle.std.specs.Prelude.{◌≡◌, ℕ, ◌<◌, Bool, true, false, Option, None, Some, List, [], ◌∷◌, length, nat_eq}
+use Rattle.pmb_value.specs.declared.number_format.NumberFormat.{NumberFormat}
+use Rattle.pmb_value.specs.declared.number_format.NumberFormat.TheVariants as formats
 use Rattle.pmb_command.specs.declared.form.Form.{Form}
 use Rattle.pmb_command.specs.declared.form.Form.TheVariants.{Zero, One, Two, Four, Eight, Block}
 use Rattle.pmb_command.specs.declared.entry.Kind.{Kind}
-use Rattle.pmb_command.specs.declared.entry.Kind.TheVariants.{Raw, Linear11, Linear11Fixed, Vout, VoutSigned, Direct}
-use Rattle.pmb_command.specs.declared.entry.Kind.TheVariants.{Status}
+use Rattle.pmb_command.specs.declared.entry.Kind.TheVariants.{Raw, Number, Vout, VoutSigned, Status}
 use Rattle.pmb_command.specs.Entry.{EntryParts}
 use Rattle.pmb_command.specs.Bus.{IsEntry}
 use Rattle.pmb_command.specs.Commands.{code_of_name, is_among, standard_entry}
 use Rattle.pmb_command.specs.StatusBits.{BitNames}
 
--- whether a kind needs no number of a device's data sheet: DIRECT has coefficients, and LINEAR11 may
--- have a fixed exponent
+-- LINEAR11, with any exponent
+abbrev pub is_linear11 : NumberFormat → Bool
+is_linear11 formats.Linear11 = true
+is_linear11 (formats.Linear11Fixed exponent) = false
+is_linear11 (formats.Word format) = false
+is_linear11 formats.Half = false
+is_linear11 (formats.Vid table) = false
+
+-- whether a kind is none that a device's data sheet completes: a number is in LINEAR11, with any
+-- exponent
 abbrev pub is_general : Kind → Bool
 is_general Raw = true
-is_general Linear11 = true
-is_general (Linear11Fixed exponent) = false
+is_general (Number format) = is_linear11 format
 is_general Vout = true
 is_general VoutSigned = true
-is_general (Direct d) = false
 is_general Status = true
 
 -- The standard entry of a code: it has the code, a name that no other one has, is a command that a

@@ -16,10 +16,10 @@ use crate::entry::{Entry, Kind};
 use crate::form::{Form, Shape};
 use StandardKind::{Linear11, Raw, Status, Vout, VoutSigned};
 use arrayvec::ArrayString;
+use pmb_value::NumberFormat;
 
-/// What the data of a standard command stand for where no profile says otherwise; never a number in
-/// DIRECT or in LINEAR11 with a fixed exponent, since a device has to tell the coefficients or the
-/// exponent.
+/// What the data of a standard command stand for where no profile says otherwise. A number is in
+/// LINEAR11 without a fixed exponent: other formats are a device's own.
 #[derive(Clone, Copy)]
 enum StandardKind {
     Raw,
@@ -293,7 +293,7 @@ fn kind_of(kind: StandardKind) -> Kind
 {
     match kind {
         Raw => Kind::Raw,
-        Linear11 => Kind::Linear11,
+        Linear11 => Kind::Number(NumberFormat::Linear11),
         Vout => Kind::Vout,
         VoutSigned => Kind::VoutSigned,
         Status => Kind::Status,

@@ -4,23 +4,20 @@
 
 use crate::form::Shape;
 use arrayvec::ArrayString;
-use pmb_coefficients::Direct;
+use pmb_value::NumberFormat;
 
 /// What the data of a command stand for.
 #[derive(Clone, Copy, Debug, PartialEq, Eq)]
 pub enum Kind {
     /// Bytes, with no number in them.
     Raw,
-    /// A number in LINEAR11.
-    Linear11,
-    /// A number in LINEAR11, always written with this exponent, -16 to 15.
-    Linear11Fixed(i8),
-    /// An output voltage, unsigned in the linear format of VOUT_MODE.
+    /// A number in this format.
+    Number(NumberFormat),
+    /// An output voltage: unsigned in the linear format of VOUT_MODE, and in DIRECT where the device's
+    /// coefficients are unsigned.
     Vout,
-    /// A correction of the output voltage, signed in the linear format of VOUT_MODE.
+    /// A correction of the output voltage: signed in the linear format of VOUT_MODE, and in DIRECT.
     VoutSigned,
-    /// A number in DIRECT, with these coefficients.
-    Direct(Direct),
     /// Status bits.
     Status,
 }

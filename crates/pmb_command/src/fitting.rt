@@ -3,9 +3,9 @@
 //! Its rows: `tests/rows/forms.txt`.
 
 ghost use Rattle.std.specs.Prelude.{◌≡◌, option_map, IsTrue};
-ghost use Rattle.pmb_command.specs.Bus.{IsFitting};
+ghost use Rattle.pmb_command.specs.Bus.{IsFitting, KeepsRanges};
 ghost use Rattle.pmb_command.specs.Entry.{entry_parts};
-ghost use Rattle.pmb_command.specs.Fitting.{has_form, ways_agree, reads_data, calls_fit, is_fixed, is_kept, are_kept, is_always_raw, is_raw, value_form, is_form, kind_fits, exponent_fits, is_fitting, register_form, is_length};
+ghost use Rattle.pmb_command.specs.Fitting.{has_form, ways_agree, reads_data, calls_fit, is_fixed, is_kept, are_kept, is_always_raw, is_raw, value_form, is_form, kind_fits, is_fitting, register_form, is_length};
 
 use crate::commands::standard;
 use crate::entry::{Entry, Kind};
@@ -121,24 +121,18 @@ fn kind_fits(kind: Kind, form: Option<Form>) -> bool
 {
     match kind {
         Kind::Raw => true,
-        Kind::Linear11 | Kind::Linear11Fixed(_) | Kind::Vout | Kind::VoutSigned | Kind::Direct(_) =>
-            is_form(Form::Two, form),
+        Kind::Number(_) | Kind::Vout | Kind::VoutSigned => is_form(Form::Two, form),
         Kind::Status => is_form(Form::One, form) || is_form(Form::Two, form),
     }
 }
 
-/// Whether a fixed exponent is one of LINEAR11's, of five bits.
-const fn exponent_fits(kind: Kind) -> bool
-    ensures { result ≡ exponent_fits kind }
+/// The exponent or the coefficients of a kind's number format are in their ranges. It does nothing.
+fn keeps_ranges(kind: &Kind)
+    ensures { KeepsRanges kind.now }
 {
     match kind {
-        Kind::Linear11Fixed(exponent) => -16 <= exponent && exponent <= 15,
-        Kind::Raw
-        | Kind::Linear11
-        | Kind::Vout
-        | Kind::VoutSigned
-        | Kind::Direct(_)
-        | Kind::Status => true,
+        Kind::Number(format) => format.keeps_ranges(),
+        Kind::Raw | Kind::Vout | Kind::VoutSigned | Kind::Status => {}
     }
 }
 
@@ -147,6 +141,7 @@ pub fn is_fitting(entry: &Entry) -> bool
     ensures value { result ≡ is_fitting (entry_parts entry.now) }
     ensures parts { IsTrue result → IsFitting (entry_parts entry.now) }
 {
+    keeps_ranges(&entry.kind);
     has_form(entry.shape)
         && ways_agree(entry.shape.write, entry.shape.read)
         && reads_data(entry.shape.read)
@@ -155,7 +150,6 @@ pub fn is_fitting(entry: &Entry) -> bool
         && (!is_always_raw(entry.code) || is_raw(entry.kind))
         && !(entry.code == 0x00 && entry.paged)
         && kind_fits(entry.kind, value_form(entry.shape))
-        && exponent_fits(entry.kind)
 }
 
 /// The form of a command's register, which is read, or written with data.

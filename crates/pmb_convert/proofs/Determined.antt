@@ -2,7 +2,7 @@
 -- `some_text`, `readings_have_denominators` and `ended_lines_come_first`. A text is read as one
 -- quantity, with a positive denominator; it has one nearest code or is on one side of the range;
 -- so each line has one answer.
-use Rattle.std.proofs.Common.{◌≡◌, ◌≢◌, ℕ, ◌<◌, ◌^◌, false, ◌&&◌, ◌||◌, ◌==◌, unsigned_abs, nat_lt, nat_le, cond}
+use Rattle.std.proofs.Common.{◌≡◌, ◌≢◌, ℕ, ◌<◌, ◌≤◌, ◌^◌, false, ◌&&◌, ◌||◌, ◌==◌, unsigned_abs, nat_lt, nat_le, cond}
 use Rattle.std.proofs.Common.{Option, Some, None, Result, Ok, Err, ℤ, pos, List, [], ◌∷◌, ◌++◌, length, refl, sym, ◌∙◌}
 use Rattle.std.proofs.Common.{ap, arith, count_by, is_ok, is_err}
 use Rattle.std.specs.List.{flat_map}
@@ -27,12 +27,16 @@ use Rattle.pmb_io.specs.declared.tally.Tally.{Tally}
 use Rattle.pmb_convert.specs.declared.conversion.Conversion.{Conversion}
 use Rattle.pmb_convert.specs.declared.conversion.Conversion.TheVariants.{Encode, Decode}
 use Rattle.pmb_value.specs.declared.number_format.NumberFormat.{NumberFormat}
-use Rattle.pmb_value.specs.declared.number_format.NumberFormat.TheVariants.{Linear11, Linear11Fixed, Word}
+use Rattle.pmb_value.specs.declared.number_format.NumberFormat.TheVariants.{Linear11, Linear11Fixed, Word, Half, Vid}
 use Rattle.pmb_convert.specs.Answer.{Answer, AnswersEach, AnswersLine, AnswersText, EncodesQuantity, EncodesRead}
 use Rattle.pmb_convert.specs.Answer.{nearest, below, above, answer_line, code_text}
-use Rattle.pmb_value.specs.NumberFormat.{number_coding}
+use Rattle.pmb_value.specs.Half.{half}
+use Rattle.pmb_value.specs.Vid.{vid, first_code, last_code}
+use Rattle.pmb_vid.specs.declared.table.VidTable.{VidTable}
+use Rattle.pmb_vid.specs.declared.table.VidTable.TheVariants.{Vr11, Vr12, Vr13, Imvp9, Amd625mv, Nvidia195mv}
+use Rattle.pmb_value.specs.NumberFormat.{IsFormat, number_coding}
 use Rattle.pmb_convert.proofs.Choices.{picks}
-use Rattle.pmb_convert.specs.Laws.{HasPositive, IsDetermined, IsFormat}
+use Rattle.pmb_convert.specs.Laws.{HasPositive, IsDetermined}
 use Rattle.pmb_convert.specs.Lines.{AnswersCounted, AnswersLines}
 
 -- ---- a quantity that is read has a denominator
@@ -197,16 +201,30 @@ determined conversion one = record {
   ended = λ bytes text other left right. one_text conversion one _ text other left right;
 }
 
+-- some code has a voltage
+some_voltage : (table : VidTable) → first_code table ≤ last_code table
+some_voltage Vr11 = omega arith
+some_voltage Vr12 = omega arith
+some_voltage Vr13 = omega arith
+some_voltage Imvp9 = omega arith
+some_voltage Amd625mv = omega arith
+some_voltage Nvidia195mv = omega arith
+
 pub encodes : StaysPositive → HasOneNearest linear11 → ((e : ℤ) → IsExponent e → HasOneNearest (linear11_fixed e))
     → ((e : ℤ) → IsExponent e → (code : ℕ) × (linear11_fixed e).IsCode code)
     → ((e : ℤ) → IsExponent e → HasOneNearest (ulinear16 e)) → ((e : ℤ) → IsExponent e → HasOneNearest (slinear16 e))
-    → ((d : Coefficients) → d.m ≢ pos 0 → HasOneNearest (direct d))
-    → (format : NumberFormat) → IsFormat format → HasOneAnswer (Encode format)
-encodes stays a fixed some_code b c d Linear11 is = encode_one Linear11 0 stays a (omega arith)
-encodes stays a fixed some_code b c d (Linear11Fixed e) is = let code = some_code e is in
+    → ((d : Coefficients) → d.m ≢ pos 0 → HasOneNearest (direct d)) → HasOneNearest half
+    → ((table : VidTable) → HasOneNearest (vid table)) → (format : NumberFormat) → IsFormat format
+    → HasOneAnswer (Encode format)
+encodes stays a fixed some_code b c d h v Linear11 is = encode_one Linear11 0 stays a (omega arith)
+encodes stays a fixed some_code b c d h v (Linear11Fixed e) is = let code = some_code e is in
     encode_one (Linear11Fixed e) code.0 stays (fixed e is) code.1
-encodes stays a fixed some_code b c d (Word (Unsigned e)) is = encode_one (Word (Unsigned e)) 0 stays (b e is)
+encodes stays a fixed some_code b c d h v (Word (Unsigned e)) is = encode_one (Word (Unsigned e)) 0 stays (b e is)
     (omega arith)
-encodes stays a fixed some_code b c d (Word (Signed e)) is = encode_one (Word (Signed e)) 0 stays (c e is) (omega arith)
-encodes stays a fixed some_code b c d (Word (Direct k)) is = encode_one (Word (Direct k)) 0 stays (d k is.0)
+encodes stays a fixed some_code b c d h v (Word (Signed e)) is = encode_one (Word (Signed e)) 0 stays (c e is)
     (omega arith)
+encodes stays a fixed some_code b c d h v (Word (Direct k)) is = encode_one (Word (Direct k)) 0 stays (d k is.slope)
+    (omega arith)
+encodes stays a fixed some_code b c d h v Half is = encode_one Half 0 stays h (omega arith, omega arith)
+encodes stays a fixed some_code b c d h v (Vid table) is = encode_one (Vid table) (first_code table) stays (v table)
+    (omega arith, some_voltage table)

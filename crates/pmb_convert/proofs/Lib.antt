@@ -3,6 +3,7 @@ pub mod Codes
 pub mod Converting
 pub mod Integers
 pub mod Modes
+pub mod Tables
 pub mod Sayings
 pub mod Determined
 pub mod Ranges

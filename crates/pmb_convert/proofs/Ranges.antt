@@ -12,10 +12,10 @@ use Rattle.pmb_convert.specs.declared.format_fault.FormatFault.{FormatFault}
 use Rattle.pmb_convert.specs.declared.format_fault.FormatFault.TheVariants.{BadExponent, BadScale, ZeroSlope}
 use Rattle.pmb_value.specs.declared.number_format.NumberFormat.{NumberFormat}
 use Rattle.pmb_value.specs.declared.number_format.NumberFormat.TheVariants.{Linear11Fixed, Word}
-use Rattle.pmb_convert.specs.Laws.{IsFormat}
+use Rattle.pmb_value.specs.NumberFormat.{IsFormat}
 use Rattle.pmb_convert.proofs.Choices.{picks}
 use Rattle.pmb_convert.specs.Spelling.{Names, Saying, named_direct, is_from_to, is_zero, linear11, linear11_fixed}
-use Rattle.pmb_convert.specs.Spelling.{ulinear16, slinear16, vout, direct, named_linear, other, mode_format, said}
+use Rattle.pmb_convert.specs.Spelling.{ulinear16, slinear16, vout, half, vid, direct, named_linear, other, mode_format, said}
 use Rattle.pmb_convert.specs.Spelling.{spelled, vout_of}
 
 -- a format, where there is one
@@ -44,12 +44,13 @@ not_zero : (m : ℤ) → is_zero m ≡ false → m ≢ pos 0
 not_zero (pos n) test is = grind (arith, ints, nat_tests)
 not_zero (negsuc n) test is = cc
 
-coefficients : (m b r : ℤ) → IsFormatIn (named_direct m b r)
-coefficients m b r =
-    let made : NumberFormat = Word (Direct (record { m = m; b = b; r = r })) in
+coefficients : (u : Bool) (m b r : ℤ) → IsFormatIn (named_direct u m b r)
+coefficients u m b r =
+    let made : NumberFormat = Word (Direct (record { m = m; b = b; r = r; unsigned = u })) in
     picks IsFormatIn (is_zero m) (Err ZeroSlope) (cond (is_from_to 9 9 r) (Ok made) (Err BadScale)) (λ _. tt)
     (λ slope. picks IsFormatIn (is_from_to 9 9 r) (Ok made) (Err BadScale)
-    (λ inside. (not_zero m slope, (scale r inside).0, (scale r inside).1)) (λ _. tt))
+    (λ inside. record { slope = not_zero m slope; least = (scale r inside).0; greatest = (scale r inside).1 })
+    (λ _. tt))
 
 -- the exponent of a VOUT_MODE
 exponent_in : (field : ℕ) → field < 32 → IsExponent (twos_complement 5 field)
@@ -66,11 +67,11 @@ exponent_in field small = picks IsExponent (nat_lt field 16) (pos field) (pos fi
 mode : (m : ℕ) → IsFormatIn (vout_of m)
 mode m = by (m / 2 ^ 7 == 1) (m / 2 ^ 5 % 2 ^ 2 == 1) (m / 2 ^ 5 % 2 ^ 2 == 3) (m / 2 ^ 5 % 2 ^ 2 == 2)
   where
-    by : (relative vid ieee coded : Bool) → IsFormatIn
+    by : (relative by_vid ieee coded : Bool) → IsFormatIn
         (mode_format (if relative then Err Relative else
-        (if vid then Err Vid else (if ieee then Err Ieee else
+        (if by_vid then Err Vid else (if ieee then Err Ieee else
         (if coded then Err NoCoefficients else Ok (Unsigned (twos_complement 5 (m % 2 ^ 5))))))))
-    by true vid ieee coded = tt
+    by true by_vid ieee coded = tt
     by false true ieee coded = tt
     by false false true coded = tt
     by false false false true = tt
@@ -82,7 +83,9 @@ said_in (linear11_fixed e) = fixed e
 said_in (ulinear16 e) = unsigned e
 said_in (slinear16 e) = signed e
 said_in (vout m) = mode m
-said_in (direct m b r) = coefficients m b r
+said_in half = tt
+said_in (vid table) = tt
+said_in (direct u m b r) = coefficients u m b r
 
 pub named_in : (text : List ℕ) (format : NumberFormat) → Names text (Ok format) → IsFormat format
 named_in text format (spelled saying says is) = subst IsFormatIn (sym is) (said_in saying)

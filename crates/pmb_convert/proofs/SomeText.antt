@@ -12,9 +12,12 @@ use Rattle.pmb_value.specs.Coding.{Coding}
 use Rattle.pmb_value.specs.Direct.{Coefficients, direct}
 use Rattle.pmb_value.specs.Linear.{IsExponent, linear11, linear11_fixed, ulinear16, slinear16}
 use Rattle.pmb_value.specs.declared.number_format.NumberFormat.{NumberFormat}
-use Rattle.pmb_value.specs.declared.number_format.NumberFormat.TheVariants.{Linear11, Linear11Fixed, Word}
+use Rattle.pmb_value.specs.declared.number_format.NumberFormat.TheVariants.{Linear11, Linear11Fixed, Word, Half, Vid}
 use Rattle.pmb_value.specs.declared.vout.VoutFormat.TheVariants.{Unsigned, Signed, Direct}
-use Rattle.pmb_value.specs.NumberFormat.{number_coding}
+use Rattle.pmb_value.specs.Half.{half}
+use Rattle.pmb_value.specs.Vid.{vid}
+use Rattle.pmb_vid.specs.declared.table.VidTable.{VidTable}
+use Rattle.pmb_value.specs.NumberFormat.{IsFormat, number_coding}
 use Rattle.pmb_io.specs.Count.{capped}
 use Rattle.pmb_io.specs.Lines as lines
 use Rattle.pmb_convert.specs.declared.conversion.Conversion.{Conversion}
@@ -22,7 +25,7 @@ use Rattle.pmb_convert.specs.declared.conversion.Conversion.TheVariants.{Encode,
 use Rattle.pmb_convert.specs.declared.convert_fault.ConvertFault.TheVariants.{TooLong, Below, Above}
 use Rattle.pmb_convert.specs.Answer.{Answer, AnswersEach, AnswersLine, AnswersText, EncodesQuantity, EncodesRead}
 use Rattle.pmb_convert.specs.Answer.{nearest, below, above, answer_line, code_of, code_text, decoded_answer, fault_of}
-use Rattle.pmb_convert.specs.Laws.{HasPositive, HasText, IsFormat}
+use Rattle.pmb_convert.specs.Laws.{HasPositive, HasText}
 use Rattle.pmb_convert.specs.Lines.{most_conversion_line}
 use Rattle.pmb_convert.proofs.Determined.{StaysPositive, reading-positive}
 
@@ -31,7 +34,7 @@ abbrev pub HasSomeAnswer : Conversion → Type 0
 HasSomeAnswer conversion = (text : List ℕ) → (answer : Answer) × AnswersText conversion text answer
 
 pub decode_some : (format : NumberFormat) → HasSomeAnswer (Decode format)
-decode_some format text = (decoded_answer (number_coding format) (code_of text), refl)
+decode_some format text = (decoded_answer format (code_of text), refl)
 
 quantity_some : (f : Coding) → HasAnswers f → (q : Fraction) → 0 < q.denominator
     → (answer : Answer) × EncodesQuantity f q answer
@@ -56,13 +59,16 @@ encode_some stays format has text = read_some (number_coding format) has (readin
 
 pub encodes_some : StaysPositive → HasAnswers linear11 → ((e : ℤ) → IsExponent e → HasAnswers (linear11_fixed e))
     → ((e : ℤ) → IsExponent e → HasAnswers (ulinear16 e)) → ((e : ℤ) → IsExponent e → HasAnswers (slinear16 e))
-    → ((d : Coefficients) → d.m ≢ pos 0 → HasAnswers (direct d))
+    → ((d : Coefficients) → d.m ≢ pos 0 → HasAnswers (direct d)) → HasAnswers half
+    → ((table : VidTable) → HasAnswers (vid table))
     → (format : NumberFormat) → IsFormat format → HasSomeAnswer (Encode format)
-encodes_some stays a fixed b c d Linear11 is = encode_some stays Linear11 a
-encodes_some stays a fixed b c d (Linear11Fixed e) is = encode_some stays (Linear11Fixed e) (fixed e is)
-encodes_some stays a fixed b c d (Word (Unsigned e)) is = encode_some stays (Word (Unsigned e)) (b e is)
-encodes_some stays a fixed b c d (Word (Signed e)) is = encode_some stays (Word (Signed e)) (c e is)
-encodes_some stays a fixed b c d (Word (Direct k)) is = encode_some stays (Word (Direct k)) (d k is.0)
+encodes_some stays a fixed b c d e v Linear11 is = encode_some stays Linear11 a
+encodes_some stays a fixed b c d e v (Linear11Fixed n) is = encode_some stays (Linear11Fixed n) (fixed n is)
+encodes_some stays a fixed b c d e v (Word (Unsigned n)) is = encode_some stays (Word (Unsigned n)) (b n is)
+encodes_some stays a fixed b c d e v (Word (Signed n)) is = encode_some stays (Word (Signed n)) (c n is)
+encodes_some stays a fixed b c d e v (Word (Direct k)) is = encode_some stays (Word (Direct k)) (d k is.slope)
+encodes_some stays a fixed b c d e v Half is = encode_some stays Half e
+encodes_some stays a fixed b c d e v (Vid table) is = encode_some stays (Vid table) (v table)
 
 -- ---- and so have lines
 

@@ -5,7 +5,7 @@ use Rattle.hex.specs.Hex.{decode_sized, encode_lower}
 use Rattle.hex.specs.declared.error.FromHexError.{FromHexError}
 use Rattle.pmb_quantity.specs.declared.quantity.QuantityFault.{QuantityFault}
 use Rattle.pmb_quantity.specs.declared.quantity.QuantityFault.TheVariants as quantity
-use Rattle.pmb_value.specs.Coding.{Coding, IsAbove, IsBelow, IsInRange, IsNearest, value_of}
+use Rattle.pmb_value.specs.Coding.{Coding, IsAbove, IsBelow, IsInRange, IsNearest}
 use Rattle.pmb_value.specs.Fraction.{Fraction}
 use Rattle.pmb_value.specs.QuantityText.{spelling}
 use Rattle.pmb_value.specs.Reading.{reading}
@@ -15,7 +15,12 @@ use Rattle.pmb_convert.specs.declared.conversion.Conversion.TheVariants.{Encode,
 use Rattle.pmb_convert.specs.declared.convert_fault.ConvertFault.{ConvertFault}
 use Rattle.pmb_convert.specs.declared.convert_fault.ConvertFault.TheVariants.{TooLong, Empty, BadDigit, ZeroDenominator}
 use Rattle.pmb_convert.specs.declared.convert_fault.ConvertFault.TheVariants.{TooLarge, Below, Above, BadCode}
+use Rattle.pmb_convert.specs.declared.convert_fault.ConvertFault.TheVariants.{NotANumber, NoCode, Off}
 use Rattle.pmb_value.specs.NumberFormat.{number_coding}
+use Rattle.pmb_value.specs.WordFault.{value_in}
+use Rattle.pmb_value.specs.declared.number_format.NumberFormat.{NumberFormat}
+use Rattle.pmb_value.specs.declared.number_format.WordFault.{WordFault}
+use Rattle.pmb_value.specs.declared.number_format.WordFault.TheVariants as word
 
 -- a text, or why there is none
 abbrev pub Answer : Type 0
@@ -31,6 +36,9 @@ fault_name TooLarge = codes "TooLarge"
 fault_name Below = codes "Below"
 fault_name Above = codes "Above"
 fault_name BadCode = codes "BadCode"
+fault_name NotANumber = codes "NotANumber"
+fault_name NoCode = codes "NoCode"
+fault_name Off = codes "Off"
 
 -- the line of an answer
 abbrev pub answer_line : Answer → List ℕ
@@ -73,17 +81,26 @@ EncodesRead f (Err fault) answer = answer ≡ Err (fault_of fault)
 
 -- ---- decode
 
--- a code is answered by its exact value
-abbrev pub decoded_answer : Coding → Option ℕ → Answer
-decoded_answer f None = Err BadCode
-decoded_answer f (Some code) = Ok (spelling (value_of f code))
+abbrev pub value_fault : WordFault → ConvertFault
+value_fault word.NotANumber = NotANumber
+value_fault word.NoCode = NoCode
+value_fault word.Off = Off
+
+-- a word is answered by its exact value, or by why it has none
+abbrev pub word_answer : Result Fraction WordFault → Answer
+word_answer (Ok value) = Ok (spelling value)
+word_answer (Err fault) = Err (value_fault fault)
+
+abbrev pub decoded_answer : NumberFormat → Option ℕ → Answer
+decoded_answer format None = Err BadCode
+decoded_answer format (Some code) = word_answer (value_in format code)
 
 -- ---- lines
 
 -- what is answered to what a line says
 abbrev pub AnswersText : Conversion → List ℕ → Answer → Type 0
 AnswersText (Encode format) text answer = EncodesRead (number_coding format) (reading text) answer
-AnswersText (Decode format) text answer = answer ≡ decoded_answer (number_coding format) (code_of text)
+AnswersText (Decode format) text answer = answer ≡ decoded_answer format (code_of text)
 
 -- what is answered to a line: a CR before its LF is no part of what it says
 abbrev pub AnswersLine : Conversion → lines.TextLine → Answer → Type 0

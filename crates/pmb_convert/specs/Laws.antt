@@ -1,22 +1,10 @@
 -- Laws over the definitions alone.
-use Rattle.std.specs.Prelude.{◌≡◌, ◌≢◌, ◌<◌, ℕ, Result, Ok, Err, pos, negsuc, ◌≤ℤ◌, List, ◌++◌}
+use Rattle.std.specs.Prelude.{◌≡◌, ◌<◌, ℕ, Result, Ok, Err, List, ◌++◌}
 use Rattle.pmb_io.specs.declared.tally.Tally.{Tally}
 use Rattle.pmb_quantity.specs.Fraction.{Fraction}
 use Rattle.pmb_quantity.specs.declared.quantity.QuantityFault.{QuantityFault}
-use Rattle.pmb_value.specs.Linear.{IsExponent}
-use Rattle.pmb_value.specs.declared.vout.VoutFormat.TheVariants.{Unsigned, Signed, Direct}
 use Rattle.pmb_convert.specs.declared.conversion.Conversion.{Conversion}
-use Rattle.pmb_value.specs.declared.number_format.NumberFormat.{NumberFormat}
-use Rattle.pmb_value.specs.declared.number_format.NumberFormat.TheVariants.{Linear11, Linear11Fixed, Word}
 use Rattle.pmb_convert.specs.Lines.{AnswersEnded, AnswersInput}
-
--- the numbers that a format's type allows
-abbrev pub IsFormat : NumberFormat → Type 0
-IsFormat Linear11 = Unit {0}
-IsFormat (Linear11Fixed exponent) = IsExponent exponent
-IsFormat (Word (Unsigned exponent)) = IsExponent exponent
-IsFormat (Word (Signed exponent)) = IsExponent exponent
-IsFormat (Word (Direct d)) = (d.m ≢ pos 0) × (negsuc 8 ≤ℤ d.r) × (d.r ≤ℤ pos 9)
 
 -- The text that answers an input, and its tally, are those of its bytes alone; so is the text that
 -- answers the lines that have ended in it.

@@ -1,3 +1,4 @@
+pub use Rattle.pmb_vid.specs.declared.table.VidTable
 pub mod Answer
 pub mod Laws
 pub mod Lines

@@ -1,5 +1,5 @@
 -- How a FORMAT is spelled, and what it names.
-use Rattle.std.specs.Prelude.{◌≡◌, ℕ, ◌+◌, ◌*◌, Bool, false, Some, None, Result, Ok, Err, ℤ, pos, negsuc, neg_ℤ, List}
+use Rattle.std.specs.Prelude.{◌≡◌, ℕ, ◌+◌, ◌*◌, Bool, true, false, Some, None, Result, Ok, Err, ℤ, pos, negsuc, neg_ℤ, List}
 use Rattle.std.specs.Prelude.{[], ◌∷◌, ◌++◌, codes, FitsSigned, if◌then◌else◌, ◌==◌, nat_lt}
 use Rattle.std.specs.Int.{w8, w16}
 use Rattle.std.specs.Str.Parse.{IsNumeral, digits_value}
@@ -13,7 +13,9 @@ use Rattle.pmb_convert.specs.declared.format_fault.FormatFault.{FormatFault}
 use Rattle.pmb_convert.specs.declared.format_fault.FormatFault.TheVariants.{BadFormat, BadExponent, ZeroSlope, BadScale}
 use Rattle.pmb_convert.specs.declared.format_fault.FormatFault.TheVariants.{Relative, Vid, Ieee, NoCoefficients}
 use Rattle.pmb_value.specs.declared.number_format.NumberFormat.{NumberFormat}
-use Rattle.pmb_value.specs.declared.number_format.NumberFormat.TheVariants.{Linear11, Linear11Fixed, Word}
+use Rattle.pmb_value.specs.declared.number_format.NumberFormat.TheVariants as number
+use Rattle.pmb_vid.specs.Names.{table_name}
+use Rattle.pmb_vid.specs.declared.table.VidTable.{VidTable}
 
 -- ---- what a FORMAT says: a kind, and its numbers
 
@@ -23,7 +25,10 @@ pub data Saying : Type 0 where
   ulinear16 : ℤ → Saying
   slinear16 : ℤ → Saying
   vout : ℕ → Saying
-  direct : ℤ → ℤ → ℤ → Saying
+  half : Saying
+  vid : VidTable → Saying
+  -- DIRECT, whose words count without a sign or in two's complement
+  direct : (unsigned : Bool) → ℤ → ℤ → ℤ → Saying
 
 -- ---- its spelling
 
@@ -54,6 +59,11 @@ pub record WritesMode (text : List ℕ) (mode : ℕ) : Type 0 where
   pub low_is : hex_digit_value low ≡ Some low_value
   pub value : mode ≡ high_value * 16 + low_value
 
+-- the word of DIRECT, for words without a sign and in two's complement
+abbrev pub direct_kind : Bool → List ℕ
+direct_kind true = codes "udirect:"
+direct_kind false = codes "direct:"
+
 -- which texts spell it
 abbrev pub SpellsFormat : List ℕ → Saying → Type 0
 SpellsFormat text linear11 = text ≡ codes "linear11"
@@ -61,8 +71,10 @@ SpellsFormat text (linear11_fixed exponent) = (E : List ℕ) × (text ≡ codes 
 SpellsFormat text (ulinear16 exponent) = (E : List ℕ) × (text ≡ codes "ulinear16:" ++ E) × WritesByte E exponent
 SpellsFormat text (slinear16 exponent) = (E : List ℕ) × (text ≡ codes "slinear16:" ++ E) × WritesByte E exponent
 SpellsFormat text (vout mode) = (HH : List ℕ) × (text ≡ codes "vout:" ++ HH) × WritesMode HH mode
-SpellsFormat text (direct m b r) =
-    (M : List ℕ) × (B : List ℕ) × (R : List ℕ) × (text ≡ codes "direct:" ++ M ++ codes "," ++ B ++ codes "," ++ R)
+SpellsFormat text half = text ≡ codes "half"
+SpellsFormat text (vid table) = text ≡ codes "vid:" ++ table_name table
+SpellsFormat text (direct unsigned m b r) =
+    (M : List ℕ) × (B : List ℕ) × (R : List ℕ) × (text ≡ direct_kind unsigned ++ M ++ codes "," ++ B ++ codes "," ++ R)
     × WritesWord M m × WritesWord B b × WritesByte R r
 
 -- ---- the format that it names, or what is wrong with its numbers
@@ -85,7 +97,7 @@ mode_fault mode.NoCoefficients = NoCoefficients
 
 -- the format that a VOUT_MODE names
 abbrev pub mode_format : Result VoutFormat ModeFault → Result NumberFormat FormatFault
-mode_format (Ok format) = Ok (Word format)
+mode_format (Ok format) = Ok (number.Word format)
 mode_format (Err fault) = Err (mode_fault fault)
 
 -- VOUT_MODE is that of a command whose linear words are unsigned, without coefficients
@@ -97,18 +109,21 @@ is_zero (pos n) = n == 0
 is_zero (negsuc n) = false
 
 -- a DIRECT format: its slope m is not 0, and its power of ten r is from -9 to 9
-abbrev pub named_direct : ℤ → ℤ → ℤ → Result NumberFormat FormatFault
-named_direct m b r =
+abbrev pub named_direct : Bool → ℤ → ℤ → ℤ → Result NumberFormat FormatFault
+named_direct unsigned m b r =
     if is_zero m then Err ZeroSlope else (
-    if is_from_to 9 9 r then Ok (Word (Direct (record { m = m; b = b; r = r }))) else Err BadScale)
+    if is_from_to 9 9 r then Ok (number.Word (Direct (record { m = m; b = b; r = r; unsigned = unsigned })))
+    else Err BadScale)
 
 abbrev pub said : Saying → Result NumberFormat FormatFault
-said linear11 = Ok Linear11
-said (linear11_fixed exponent) = named_linear Linear11Fixed exponent
-said (ulinear16 exponent) = named_linear (λ e. Word (Unsigned e)) exponent
-said (slinear16 exponent) = named_linear (λ e. Word (Signed e)) exponent
+said linear11 = Ok number.Linear11
+said (linear11_fixed exponent) = named_linear number.Linear11Fixed exponent
+said (ulinear16 exponent) = named_linear (λ e. number.Word (Unsigned e)) exponent
+said (slinear16 exponent) = named_linear (λ e. number.Word (Signed e)) exponent
 said (vout mode) = vout_of mode
-said (direct m b r) = named_direct m b r
+said half = Ok number.Half
+said (vid table) = Ok (number.Vid table)
+said (direct unsigned m b r) = named_direct unsigned m b r
 
 -- ---- the answer to a text
 

@@ -5,14 +5,15 @@
 ghost use Rattle.std.specs.Prelude.{◌≡◌};
 ghost use Rattle.pmb_io.specs.Lines.{line_text};
 ghost use Rattle.pmb_value.specs.Reading.{reading};
-ghost use Rattle.pmb_convert.specs.Answer.{EncodesQuantity, EncodesRead, code_of, decoded_answer};
+ghost use Rattle.pmb_convert.specs.Answer.{EncodesQuantity, EncodesRead, code_of, decoded_answer, word_answer};
 ghost use Rattle.pmb_value.specs.NumberFormat.{number_coding};
+ghost use Rattle.pmb_value.specs.WordFault.{value_in};
 ghost use Rattle.pmb_convert.specs.machine.Converting.{answer_of};
 
 use crate::answer::Converted;
 use crate::convert_fault::ConvertFault;
 use pmb_io::{InputLine, without_return};
-use pmb_value::{Format, NumberFormat, Quantity, QuantityFault, RangeFault, Steps};
+use pmb_value::{Format, NumberFormat, Quantity, QuantityFault, RangeFault, Steps, WordFault};
 
 /// What is done with each line.
 #[derive(Clone, Copy, Debug, PartialEq, Eq)]
@@ -74,11 +75,23 @@ fn encoded_quantity(format: &NumberFormat, quantity: &Quantity) -> Result<Conver
 
 /// The value of the code that a text writes.
 fn decoded(format: &NumberFormat, text: &[u8]) -> Result<Converted, ConvertFault>
-    ensures { answer_of result ≡ decoded_answer (number_coding format.now) (code_of text.now) }
+    ensures { answer_of result ≡ decoded_answer format.now (code_of text.now) }
 {
     match code(text) {
-        Some(code) => Ok(Converted::Value(format.decode(code))),
+        Some(code) => word_value(format, code),
         None => Err(ConvertFault::BadCode),
+    }
+}
+
+/// The value of a word, or why it has none.
+fn word_value(format: &NumberFormat, word: u16) -> Result<Converted, ConvertFault>
+    ensures { answer_of result ≡ word_answer (value_in format.now word) }
+{
+    match format.value(word) {
+        Ok(quantity) => Ok(Converted::Value(quantity)),
+        Err(WordFault::NotANumber) => Err(ConvertFault::NotANumber),
+        Err(WordFault::NoCode) => Err(ConvertFault::NoCode),
+        Err(WordFault::Off) => Err(ConvertFault::Off),
     }
 }
 

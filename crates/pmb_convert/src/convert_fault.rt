@@ -24,6 +24,12 @@ pub enum ConvertFault {
     Above,
     /// The text is not four hexadecimal digits.
     BadCode,
+    /// The code is an infinity of half precision, or no number.
+    NotANumber,
+    /// The VID table has no voltage for the code.
+    NoCode,
+    /// The code stands for an output that is off.
+    Off,
 }
 
 impl ConvertFault {
@@ -40,6 +46,9 @@ impl ConvertFault {
             ConvertFault::Below => b"Below",
             ConvertFault::Above => b"Above",
             ConvertFault::BadCode => b"BadCode",
+            ConvertFault::NotANumber => b"NotANumber",
+            ConvertFault::NoCode => b"NoCode",
+            ConvertFault::Off => b"Off",
         }
     }
 }

@@ -5,15 +5,16 @@ ghost use Rattle.pmb_convert.specs.declared.conversion.Conversion.TheVariants.{E
 ghost use Rattle.pmb_convert.specs.declared.format_fault.FormatFault.{FormatFault};
 ghost use Rattle.pmb_value.specs.Reading.{reading};
 ghost use Rattle.pmb_value.specs.declared.number_format.NumberFormat.{NumberFormat};
-ghost use Rattle.pmb_convert.specs.Laws.{ComesFirst, HasPositive, HasText, IsDetermined, IsFormat};
+ghost use Rattle.pmb_value.specs.NumberFormat.{IsFormat};
+ghost use Rattle.pmb_convert.specs.Laws.{ComesFirst, HasPositive, HasText, IsDetermined};
 ghost use Rattle.pmb_convert.specs.Spelling.{Names, Saying, SpellsFormat};
 
 use pmb_io::laws::ended_lines_stay;
 use pmb_quantity::laws::lowest_terms;
 use pmb_value::laws::{
-    direct_has_one_nearest, linear11_fixed_has_codes, linear11_fixed_has_one_nearest,
-    linear11_has_one_nearest, quantities_have_answers, slinear16_has_one_nearest,
-    ulinear16_has_one_nearest,
+    direct_has_one_nearest, half_has_one_nearest, linear11_fixed_has_codes,
+    linear11_fixed_has_one_nearest, linear11_has_one_nearest, quantities_have_answers,
+    slinear16_has_one_nearest, ulinear16_has_one_nearest, vid_has_one_nearest,
 };
 
 /// A text spells at most one FORMAT, so that it names one format or has one fault. The format's
@@ -36,6 +37,8 @@ pub fn one_text()
     ulinear16_has_one_nearest();
     slinear16_has_one_nearest();
     direct_has_one_nearest();
+    half_has_one_nearest();
+    vid_has_one_nearest();
 }
 
 /// What is written for the lines that have ended in some bytes is a function of these bytes, and a
@@ -52,6 +55,8 @@ pub fn ended_lines_come_first()
     ulinear16_has_one_nearest();
     slinear16_has_one_nearest();
     direct_has_one_nearest();
+    half_has_one_nearest();
+    vid_has_one_nearest();
 }
 
 /// Some text, with its tally, is what `encode_lines` and `decode_lines` write for any bytes.

@@ -43,7 +43,8 @@ pub fn encode_lines<R: Source, W: Sink>(
 ///
 /// The lines are those of `encode_lines`. The answer is the exact value of the code as
 /// [`Quantity::text`](pmb_value::Quantity::text) writes it; or `! ` and why there is none: `TooLong`
-/// for a line over 256 bytes, `BadCode` for a text that is not four hexadecimal digits.
+/// for a line over 256 bytes, `BadCode` for a text that is not four hexadecimal digits, and for a
+/// code without a value `NotANumber` in half precision, `NoCode` or `Off` in a VID table.
 ///
 /// The answers to the lines of a piece are written before the next is read. The tally counts a text as
 /// a packet and a fault as a refusal.

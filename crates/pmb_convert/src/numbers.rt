@@ -56,13 +56,29 @@ pub(crate) fn of_mode(mode: u8) -> Result<NumberFormat, FormatFault>
     }
 }
 
-/// The DIRECT format of three coefficients.
-pub(crate) fn of_coefficients(m: i16, b: i16, r: i8) -> Result<NumberFormat, FormatFault>
-    ensures { result ≡ named_direct m b r }
+/// The DIRECT format of three coefficients, for words without a sign or in two's complement.
+pub(crate) fn of_coefficients(
+    unsigned: bool,
+    m: i16,
+    b: i16,
+    r: i8,
+) -> Result<NumberFormat, FormatFault>
+    ensures { result ≡ named_direct unsigned m b r }
 {
     match Direct::new(m, b, r) {
-        Ok(direct) => Ok(NumberFormat::Word(VoutFormat::Direct(direct))),
+        Ok(direct) => Ok(NumberFormat::Word(VoutFormat::Direct(with_words(unsigned, direct)))),
         Err(DirectFault::ZeroSlope) => Err(FormatFault::ZeroSlope),
         Err(DirectFault::BadScale) => Err(FormatFault::BadScale),
+    }
+}
+
+/// Coefficients for words without a sign or in two's complement.
+fn with_words(unsigned: bool, direct: Direct) -> Direct
+    ensures { result ≡ record direct { unsigned = unsigned } }
+{
+    if unsigned {
+        direct.unsigned()
+    } else {
+        direct.signed()
     }
 }

@@ -4,16 +4,17 @@
 
 ghost use Rattle.std.specs.Int.{w8, w16};
 ghost use Rattle.pmb_convert.specs.Spelling.{Answers, Names};
-ghost use Rattle.pmb_convert.specs.machine.Parts.{IsDirect, IsFixed, IsSigned, IsUnsigned, IsVout, ReadsInteger, ReadsMode, SplitsAtComma, StripsPrefix};
+ghost use Rattle.pmb_convert.specs.machine.Parts.{IsDirect, IsFixed, IsSigned, IsUnsigned, IsVid, IsVout, ReadsInteger, ReadsMode, SplitsAtComma, StripsPrefix};
 
 use crate::format_fault::FormatFault;
 use crate::numbers::{fixed, of_coefficients, of_mode, signed, unsigned};
-use pmb_value::NumberFormat;
+use pmb_value::{NumberFormat, VidTable};
 
-/// Reads a FORMAT: `linear11`, `linear11:E`, `ulinear16:E`, `slinear16:E`, `vout:HH` or
-/// `direct:M,B,R`. E, M, B and R are decimal numbers, with or without a `-`; E and R are from -128 to
-/// 127, M and B from -32768 to 32767. HH is a VOUT_MODE in two hexadecimal digits, for a command
-/// whose linear words are unsigned, without coefficients.
+/// Reads a FORMAT: `linear11`, `linear11:E`, `ulinear16:E`, `slinear16:E`, `vout:HH`, `half`,
+/// `vid:TABLE`, `direct:M,B,R` or `udirect:M,B,R`, whose words have no sign. E, M, B and R are decimal
+/// numbers, with or without a `-`; E and R are from -128 to 127, M and B from -32768 to 32767. HH is
+/// a VOUT_MODE in two hexadecimal digits, for a command whose linear words are unsigned, without
+/// coefficients. TABLE is the name of a VID table.
 ///
 /// # Errors
 ///
@@ -37,8 +38,17 @@ pub fn parse_format(text: &str) -> Result<NumberFormat, FormatFault>
     if let Some(mode) = without_prefix(text, "vout:") {
         return vout(mode);
     }
+    if text == "half" {
+        return Ok(NumberFormat::Half);
+    }
+    if let Some(name) = without_prefix(text, "vid:") {
+        return vid(name);
+    }
     if let Some(numbers) = without_prefix(text, "direct:") {
-        return direct(numbers);
+        return direct(false, numbers);
+    }
+    if let Some(numbers) = without_prefix(text, "udirect:") {
+        return direct(true, numbers);
     }
     Err(FormatFault::BadFormat)
 }
@@ -90,9 +100,20 @@ fn vout(mode: &str) -> Result<NumberFormat, FormatFault>
     }
 }
 
-/// The DIRECT format of three numbers between two commas.
-fn direct(numbers: &str) -> Result<NumberFormat, FormatFault>
-    ensures { Answers (IsDirect numbers.now) result }
+/// The VID table that a text names.
+fn vid(name: &str) -> Result<NumberFormat, FormatFault>
+    ensures { Answers (IsVid name.now) result }
+{
+    match VidTable::named(name) {
+        Some(table) => Ok(NumberFormat::Vid(table)),
+        None => Err(FormatFault::BadFormat),
+    }
+}
+
+/// The DIRECT format of three numbers between two commas, for words without a sign or in two's
+/// complement.
+fn direct(unsigned: bool, numbers: &str) -> Result<NumberFormat, FormatFault>
+    ensures { Answers (IsDirect unsigned numbers.now) result }
 {
     let Some((m, rest)) = around_comma(numbers) else {
         return Err(FormatFault::BadFormat);
@@ -109,7 +130,7 @@ fn direct(numbers: &str) -> Result<NumberFormat, FormatFault>
     let Some(r) = small_integer(r) else {
         return Err(FormatFault::BadFormat);
     };
-    of_coefficients(m, b, r)
+    of_coefficients(unsigned, m, b, r)
 }
 
 /// A text before and after its first comma.

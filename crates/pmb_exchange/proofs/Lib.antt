@@ -10,7 +10,6 @@ pub mod Writes
 pub mod Reading
 pub mod Asking
 pub mod Asked
-pub mod Setting
 pub mod Runs
 pub mod Steps
 pub mod OneExchange

@@ -1,6 +1,6 @@
 -- Each run of a host on a bus of simulated devices is the exchange that its request asks for: the
 -- law `runs_are_exchanges` itself. By the five kinds of a request: WRITE and SET are writes
--- (`Writes`, `Setting`), READ, CALL and GET ask a device (`Asked`).
+-- (`Writes`), READ, CALL and GET ask a device (`Asked`).
 use Rattle.std.proofs.Common.{ℕ, Option, List, [], ◌∷◌, sym, subst}
 use Rattle.pmb_command.specs.Parts.{DeviceParts}
 use Rattle.pmb_transaction.specs.Transaction.{PartData, TransactionData, Write}
@@ -14,9 +14,9 @@ use Rattle.pmb_host.specs.declared.step.HostStep.TheVariants.{Send, Done, Failed
 use Rattle.pmb_host.specs.Host.{Job}
 use Rattle.pmb_host.specs.Rules.{IsAllowed}
 use Rattle.pmb_host.specs.Task.{task_of}
+use Rattle.pmb_host.proofs.Asked.{set_packet}
 use Rattle.pmb_exchange.specs.Run.{HasRun, IsExchanged}
 use Rattle.pmb_exchange.proofs.Asked.{call_by_rules, get_by_rules, read_by_rules}
-use Rattle.pmb_exchange.proofs.Setting.{set_packet}
 use Rattle.pmb_exchange.proofs.Writes.{write_done, write_failed, write_job}
 
 module _ (profile : List DeviceParts) (number : Option NumberFormat) (members : List InState)

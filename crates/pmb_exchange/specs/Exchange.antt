@@ -8,7 +8,6 @@ use Rattle.std.specs.Prelude.{◌∷◌, ◌++◌, length}
 use Rattle.std.specs.List.{AllByRecursion, Contains}
 use Rattle.pmb_command.specs.declared.form.Form.{Form}
 use Rattle.pmb_command.specs.Parts.{DeviceParts}
-use Rattle.pmb_format.specs.Coding.{value_of}
 use Rattle.pmb_transaction.specs.Transaction.{PartData, TransactionData, Write, Read, Call, Refused, Alert, NoAlert}
 use Rattle.pmb_transaction.specs.Body.{CallBody}
 use Rattle.pmb_registers.specs.declared.cml_bit.CmlBit.{CmlBit}
@@ -19,8 +18,8 @@ use Rattle.pmb_host.specs.declared.step.HostFault.TheVariants as faults
 use Rattle.pmb_host.specs.declared.step.HostStep.{HostStep}
 use Rattle.pmb_host.specs.declared.step.HostStep.TheVariants.{Done, Failed}
 use Rattle.pmb_host.specs.declared.step.Reply.{Reply}
-use Rattle.pmb_value.specs.NumberFormat.{number_coding}
-use Rattle.pmb_host.specs.Steps.{ReplyData, AllWritten, AllBytes, OneValue, reply_data}
+use Rattle.pmb_value.specs.WordFault.{value_in}
+use Rattle.pmb_host.specs.Steps.{ReplyData, AllWritten, AllBytes, reply_data, told_word}
 use Rattle.pmb_host.specs.Task.{replied, word_bytes}
 
 -- A device of the bus has an address.
@@ -97,7 +96,7 @@ module _ (members : List InState) where
 pub data IsReplyTold (number : Option NumberFormat) (reply : List ℕ) (told : ReplyData) : Type 0 where
   bytes : number ≡ None → told ≡ AllBytes reply → IsReplyTold number reply told
   value : (format : NumberFormat) (word : ℕ) → number ≡ Some format → reply ≡ word_bytes word
-      → told ≡ OneValue (value_of (number_coding format) word)
+      → told ≡ told_word (value_in format word)
       → IsReplyTold number reply told
 
 -- where the last byte sent was refused: the leg counts from 1, and in it the bytes from 0, the address

@@ -2,6 +2,7 @@
 use Rattle.std.specs.Prelude.{ℤ, pos}
 use Rattle.pmb_format.specs.declared.format.RangeFault.TheVariants.{Below, Above}
 use Rattle.pmb_quantity.specs.declared.quantity.QuantityFault.TheVariants.{Empty, BadDigit, ZeroDenominator, TooLarge}
+use Rattle.pmb_value.specs.declared.number_format.WordFault.TheVariants.{NotANumber, NoCode, Off}
 use Rattle.pmb_convert.specs.declared.format_fault.FormatFault.TheVariants.{BadFormat, BadExponent, ZeroSlope, BadScale}
 use Rattle.pmb_convert.specs.declared.format_fault.FormatFault.TheVariants.{Relative, Vid, Ieee, NoCoefficients}
 use Rattle.pmb_firmware.specs.declared.call_status.CallStatus.{CallStatus}
@@ -30,3 +31,6 @@ number_of status.NoMemory = pos 18
 number_of status.BadChoice = pos 19
 number_of status.NoEvent = pos 20
 number_of status.BadToken = pos 21
+number_of (status.Word NotANumber) = pos 22
+number_of (status.Word NoCode) = pos 23
+number_of (status.Word Off) = pos 24

@@ -1,14 +1,16 @@
 -- What encoding and decoding come to, and what they leave where C has its answer.
 use Rattle.std.specs.Prelude.{◌≡◌, ℕ, ℤ, Result, Ok, Err}
-use Rattle.pmb_format.specs.Coding.{Coding, IsNearest, IsInRange, IsBelow, IsAbove, value_of}
+use Rattle.pmb_format.specs.Coding.{Coding, IsNearest, IsInRange, IsBelow, IsAbove}
 use Rattle.pmb_format.specs.declared.format.RangeFault.TheVariants.{Below, Above}
 use Rattle.pmb_quantity.specs.Fraction.{Fraction}
 use Rattle.pmb_quantity.specs.declared.quantity.QuantityFault.{QuantityFault}
 use Rattle.pmb_value.specs.NumberFormat.{number_coding}
+use Rattle.pmb_value.specs.WordFault.{value_in}
 use Rattle.pmb_value.specs.declared.number_format.NumberFormat.{NumberFormat}
+use Rattle.pmb_value.specs.declared.number_format.WordFault.{WordFault}
 use Rattle.pmb_convert.specs.declared.format_fault.FormatFault.{FormatFault}
 use Rattle.pmb_firmware.specs.declared.quantity.PmbQuantity.{PmbQuantity}
-use Rattle.pmb_firmware.specs.declared.call_status.CallStatus.TheVariants.{Done, Range, Format, Quantity}
+use Rattle.pmb_firmware.specs.declared.call_status.CallStatus.TheVariants.{Done, Range, Format, Quantity, Word}
 use Rattle.pmb_firmware.specs.Quantity.{numbers}
 use Rattle.pmb_firmware.specs.CallStatus.{number_of}
 
@@ -35,10 +37,15 @@ pub record Leaves (q : Fraction) (status : ℤ) (new : PmbQuantity) : Type 0 whe
   pub done : status ≡ number_of Done
   pub quantity : new ≡ numbers q
 
--- the exact value of a code
+-- the exact value of a word, or why it has none
+abbrev pub DecodesWord : Result Fraction WordFault → PmbQuantity → ℤ → PmbQuantity → Type 0
+DecodesWord (Err fault) old status new = Refuses (number_of (Word fault)) old status new
+DecodesWord (Ok q) old status new = Leaves q status new
+
+-- the format's fault comes before the word's
 abbrev pub Decodes : Result NumberFormat FormatFault → ℕ → PmbQuantity → ℤ → PmbQuantity → Type 0
 Decodes (Err fault) code old status new = Refuses (number_of (Format fault)) old status new
-Decodes (Ok format) code old status new = Leaves (value_of (number_coding format) code) status new
+Decodes (Ok format) code old status new = DecodesWord (value_in format code) old status new
 
 -- the quantity that a text spells
 abbrev pub Parses : Result Fraction QuantityFault → PmbQuantity → ℤ → PmbQuantity → Type 0

@@ -3,7 +3,7 @@ ghost use Rattle.std.specs.Prelude.{◌≡◌};
 ghost use Rattle.pmb_firmware.specs.CallStatus.{number_of};
 
 use pmb_convert::FormatFault;
-use pmb_value::{QuantityFault, RangeFault};
+use pmb_value::{QuantityFault, RangeFault, WordFault};
 
 /// The status of a call.
 #[derive(Clone, Copy)]
@@ -30,6 +30,8 @@ pub enum CallStatus {
     NoEvent,
     /// A word of the text is no token.
     BadToken,
+    /// The code has no value in its format.
+    Word(WordFault),
 }
 
 impl CallStatus {
@@ -60,6 +62,9 @@ impl CallStatus {
             CallStatus::BadChoice => 19,
             CallStatus::NoEvent => 20,
             CallStatus::BadToken => 21,
+            CallStatus::Word(WordFault::NotANumber) => 22,
+            CallStatus::Word(WordFault::NoCode) => 23,
+            CallStatus::Word(WordFault::Off) => 24,
         }
     }
 }

@@ -4,9 +4,10 @@
 ghost use Rattle.std.specs.Prelude.{Ok};
 ghost use Rattle.pmb_quantity.specs.Reading.{reading};
 ghost use Rattle.pmb_value.specs.NumberFormat.{number_coding};
+ghost use Rattle.pmb_value.specs.WordFault.{value_in};
 ghost use Rattle.pmb_firmware.specs.Format.{named};
 ghost use Rattle.pmb_firmware.specs.Quantity.{quantity_of};
-ghost use Rattle.pmb_firmware.specs.Number.{Decodes, Encodes, EncodesQuantity, Parses};
+ghost use Rattle.pmb_firmware.specs.Number.{Decodes, DecodesWord, Encodes, EncodesQuantity, Parses};
 
 use crate::call_status::CallStatus;
 use crate::format::PmbFormat;
@@ -53,16 +54,27 @@ fn encode_quantity(format: &NumberFormat, quantity: &Quantity, code: &mut u16) -
 
 /// Writes the exact value of a code, in lowest terms.
 ///
-/// The status is what is wrong with the format; then the quantity stays as it was.
+/// The status is what is wrong with the format, or else why the code has no value: in half precision
+/// or in a VID table. Then the quantity stays as it was.
 pub fn decode(format: &PmbFormat, code: u16, quantity: &mut PmbQuantity) -> i32
     ensures { Decodes (named format.now) code quantity.old result quantity.new }
 {
     match format.named() {
-        Ok(format) => {
-            *quantity = PmbQuantity::of(&format.decode(code));
+        Ok(format) => decode_word(&format, code, quantity),
+        Err(fault) => CallStatus::Format(fault).number(),
+    }
+}
+
+/// Writes the exact value of a word, where it has one.
+fn decode_word(format: &NumberFormat, word: u16, quantity: &mut PmbQuantity) -> i32
+    ensures { DecodesWord (value_in format.now word) quantity.old result quantity.new }
+{
+    match format.value(word) {
+        Ok(value) => {
+            *quantity = PmbQuantity::of(&value);
             CallStatus::Done.number()
         }
-        Err(fault) => CallStatus::Format(fault).number(),
+        Err(fault) => CallStatus::Word(fault).number(),
     }
 }
 

@@ -2,13 +2,14 @@
 //!
 //! Its rows: `tests_numbers`, `src/formats/direct.rt`; `tests/rows/numbers.txt`.
 ghost use Rattle.std.specs.Prelude.{◌≡◌, ◌≢◌, ◌^◌, ◌*◌, ◌<◌, ◌≤◌, pos, ◌*ℤ◌, ◌≤ℤ◌, unsigned_abs};
-ghost use Rattle.pmb_format.specs.Direct.{positive_part, sign_of};
+ghost use Rattle.pmb_format.specs.Direct.{direct_word, positive_part, sign_of};
+ghost use Rattle.pmb_format.specs.machine.DirectRow.{direct_at};
 
 use crate::codes::{self, Codes};
 use crate::evenly_spaced::{self, EvenlySpaced};
 use crate::format::{Format, RangeFault};
 use crate::steps::Steps;
-use crate::word::{SignedWord, Word, twos_complement};
+use crate::word::{SignedWord, UnsignedWord, Word};
 use pmb_coefficients::Direct;
 use pmb_quantity::Quantity;
 
@@ -18,7 +19,7 @@ impl Codes for Direct {
     ghost coding = { direct };
 
     fn numerator(&self, code: u16) -> i64 {
-        let word = times(twos_complement(16, code), ten_to(-self.r()));
+        let word = times(number_of(self, code), ten_to(-self.r()));
         let offset = times(i32::from(self.b()), ten_to(self.r()));
         with_sign_of(self.m(), word - offset)
     }
@@ -28,11 +29,13 @@ impl Codes for Direct {
     }
 
     fn least(&self) -> u16 {
-        if self.m() < 0 { 0x7fff } else { 0x8000 }
+        let index = if self.m() < 0 { 0xffff } else { 0 };
+        word_at(self, index)
     }
 
     fn greatest(&self) -> u16 {
-        if self.m() < 0 { 0x8000 } else { 0x7fff }
+        let index = if self.m() < 0 { 0 } else { 0xffff };
+        word_at(self, index)
     }
 }
 
@@ -46,7 +49,7 @@ impl EvenlySpaced for Direct {
     }
 
     fn code_at(&self, index: u16) -> u16 {
-        SignedWord::at(index)
+        word_at(self, index)
     }
 }
 
@@ -68,6 +71,29 @@ impl Format for Direct {
     }
 }
 
+/// The number that a word is.
+fn number_of(direct: &Direct, code: u16) -> i32
+    ensures value { result ≡ direct_word direct.now.unsigned code }
+    ensures small { unsigned_abs result < 2 ^ 16 }
+{
+    if direct.is_unsigned() {
+        UnsignedWord::number(code)
+    } else {
+        SignedWord::number(code)
+    }
+}
+
+/// The word of an index, from the least number upwards.
+fn word_at(direct: &Direct, index: u16) -> u16
+    ensures { result ≡ direct_at direct.now.unsigned index }
+{
+    if direct.is_unsigned() {
+        UnsignedWord::at(index)
+    } else {
+        SignedWord::at(index)
+    }
+}
+
 /// Ten to an exponent, and 1 where it is negative.
 fn ten_to(exponent: i8) -> u32
     requires { exponent ≤ℤ pos 9 }
@@ -80,12 +106,12 @@ fn ten_to(exponent: i8) -> u32
     10u32.pow(exponent as u32)
 }
 
-/// A 16-bit number times a power of ten.
+/// A number of at most 16 bits and a sign, times a power of ten.
 fn times(word: i32, power: u32) -> i64
-    requires word_is_small { unsigned_abs word ≤ 2 ^ 15 }
+    requires word_is_small { unsigned_abs word < 2 ^ 16 }
     requires power_is_small { power ≤ 1_000_000_000 }
     ensures value { result ≡ word *ℤ pos power }
-    ensures small { unsigned_abs result ≤ 2 ^ 15 * 1_000_000_000 }
+    ensures small { unsigned_abs result ≤ 2 ^ 16 * 1_000_000_000 }
 {
     i64::from(word) * i64::from(power)
 }

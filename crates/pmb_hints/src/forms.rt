@@ -5,7 +5,9 @@
 use crate::coded::code_of;
 use crate::keyed::Keyed;
 use crate::lines::Hints;
-use pmb_command::{Form, Kind, standard};
+use crate::words::is_among;
+use pmb_command::{Entry, Form, Kind, standard};
+use pmb_value::{NumberFormat, VidTable, VoutFormat};
 use std::fmt::Write;
 use toml::Table;
 
@@ -34,29 +36,58 @@ fn form_word(form: Option<Form>) -> &'static str {
 }
 
 /// The word of a kind.
-fn kind_word(kind: Kind) -> &'static str {
+fn kind_word(kind: &Kind) -> &'static str {
     match kind {
         Kind::Raw => "raw",
-        Kind::Linear11 | Kind::Linear11Fixed(_) => "linear11",
+        Kind::Number(format) => number_word(format),
         Kind::Vout => "vout",
         Kind::VoutSigned => "vout_signed",
-        Kind::Direct(_) => "direct",
         Kind::Status => "status",
+    }
+}
+
+/// The word of a kind of numbers in a format.
+fn number_word(format: &NumberFormat) -> &'static str {
+    match format {
+        NumberFormat::Linear11 | NumberFormat::Linear11Fixed(_) => "linear11",
+        NumberFormat::Word(VoutFormat::Unsigned(_)) => "ulinear16",
+        NumberFormat::Word(VoutFormat::Signed(_)) => "slinear16",
+        NumberFormat::Word(VoutFormat::Direct(_)) => "direct",
+        NumberFormat::Half => "half",
+        NumberFormat::Vid(table) => vid_word(*table),
+    }
+}
+
+/// The word of a kind of VID codes.
+fn vid_word(table: VidTable) -> &'static str {
+    match table {
+        VidTable::Vr11 => "vid:vr11",
+        VidTable::Vr12 => "vid:vr12",
+        VidTable::Vr13 => "vid:vr13",
+        VidTable::Imvp9 => "vid:imvp9",
+        VidTable::Amd625mv => "vid:amd625mv",
+        VidTable::Nvidia195mv => "vid:nvidia195mv",
     }
 }
 
 /// The parts of the standard command of a code, if there is one.
 fn standard_parts(code: i64) -> Option<Parts<'static>> {
-    let byte = u8::try_from(code).ok()?;
-    let entry = standard(byte)?;
-    Some(Parts {
+    match standard(u8::try_from(code).ok()?) {
+        Some(entry) => Some(entry_parts(code, &entry)),
+        None => None,
+    }
+}
+
+/// The parts of a command.
+fn entry_parts(code: i64, entry: &Entry) -> Parts<'static> {
+    Parts {
         code,
         write: form_word(entry.shape.write),
         read: form_word(entry.shape.read),
         call: form_word(entry.shape.call),
-        kind: kind_word(entry.kind),
+        kind: kind_word(&entry.kind),
         paged: entry.paged,
-    })
+    }
 }
 
 /// The parts of a command's table before its keys say more: those of the standard command that it
@@ -74,6 +105,22 @@ fn first_parts(table: &Table) -> Option<Parts<'static>> {
         kind: "raw",
         paged: false,
     })
+}
+
+/// The kind of a command's table.
+fn kind_of(keyed: Keyed<'_>) -> Option<&str> {
+    match keyed.text("kind") {
+        Some(kind) => Some(kind),
+        None => Some(first_parts(keyed.table)?.kind),
+    }
+}
+
+/// Whether the kind of a command's table is one of some.
+pub(crate) fn is_of_kind(keyed: Keyed<'_>, kinds: &[&str]) -> bool {
+    match kind_of(keyed) {
+        Some(kind) => is_among(kinds, kind),
+        None => false,
+    }
 }
 
 /// The parts of a command's table.

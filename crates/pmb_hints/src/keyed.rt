@@ -46,10 +46,20 @@ pub(crate) struct Keyed<'a> {
 impl<'a> Keyed<'a> {
     /// The table `vout_direct` of a device, if it has one.
     pub(crate) fn direct(&self) -> Option<Keyed<'a>> {
-        let table = self.get("vout_direct")?.as_table()?;
+        self.within("vout_direct", "vout_direct.")
+    }
+
+    /// The table `vid` of a device, if it has one.
+    pub(crate) fn vid(&self) -> Option<Keyed<'a>> {
+        self.within("vid", "vid.")
+    }
+
+    /// The table that a key has, if it has one, and what comes before its keys.
+    fn within(&self, key: &str, prefix: &'static str) -> Option<Keyed<'a>> {
+        let table = self.get(key)?.as_table()?;
         Some(Keyed {
             place: self.place,
-            prefix: "vout_direct.",
+            prefix,
             table,
             before: self.before,
         })

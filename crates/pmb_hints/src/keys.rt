@@ -5,7 +5,9 @@
 use crate::keyed::Keyed;
 use crate::lines::Hints;
 use crate::values::word;
-use crate::words::{COMMAND, DEVICE, Words, example_of, is_among, items_of, similar, type_of};
+use crate::words::{
+    COMMAND, DEVICE, Words, example_of, is_among, items_of, other_types_of, similar, type_of,
+};
 use arrayvec::ArrayString;
 use std::fmt::Write;
 use toml::Value;
@@ -74,11 +76,7 @@ fn is_wrong(keyed: Keyed<'_>, key: &str, value: &Value, lines: &mut Hints) -> bo
     if found == needed {
         return false;
     }
-    let rule = if items_of(key).is_some() && needed != "array" {
-        types_rule(needed, " or an array", found)
-    } else {
-        types_rule(needed, "", found)
-    };
+    let rule = types_rule(needed, other_types_of(key), found);
     keyed.rule(key, rule.as_str(), lines)
 }
 
@@ -99,12 +97,12 @@ fn wrong_item(
     false
 }
 
-/// Which type is needed, or which two, and the one that is there.
-fn types_rule(needed: &str, other: &str, found: &str) -> ArrayString<128> {
+/// Which types are needed, and the one that is there.
+fn types_rule(needed: &str, others: &str, found: &str) -> ArrayString<128> {
     let mut rule = ArrayString::new();
     let _ = write!(
         rule,
-        "{}{other} is needed, and this is {}",
+        "{}{others} is needed, and this is {}",
         with_article(needed).as_str(),
         with_article(found).as_str()
     );

@@ -26,6 +26,7 @@ mod report;
 mod spelling;
 mod syntax;
 mod values;
+mod vid;
 mod words;
 
 pub use lines::{Hints, hints};

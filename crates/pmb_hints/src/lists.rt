@@ -40,16 +40,18 @@ pub(crate) fn count_of_pages(keyed: Keyed<'_>, key: &str, lines: &mut Hints) -> 
     keyed.rule(key, rule.as_str(), lines)
 }
 
-/// Writes what is wrong with a list of VOUT_MODE: an item that is no byte, how many there are, or that
-/// they differ while VOUT_MODE has one value for all pages.
+/// Writes what is wrong with a list of VOUT_MODE: an item that is no byte, or how many there are.
 pub(crate) fn modes_hint(keyed: Keyed<'_>, lines: &mut Hints) -> bool {
     if let Some(place) = first_over(keyed, "vout_mode", 255) {
         let rule = "a number from 0 to 255 is needed";
         return keyed.item_rule("vout_mode", place, rule, lines);
     }
-    if count_of_pages(keyed, "vout_mode", lines) {
-        return true;
-    }
+    count_of_pages(keyed, "vout_mode", lines)
+}
+
+/// Writes that the items of a list of VOUT_MODE differ while it has one value for all pages, if there is
+/// a list. All other values of the device are looked at before.
+pub(crate) fn one_mode_hint(keyed: Keyed<'_>, lines: &mut Hints) -> bool {
     let rule = "the items have to be the same, since VOUT_MODE is not paged";
     keyed.items("vout_mode").is_some() && keyed.rule("vout_mode", rule, lines)
 }

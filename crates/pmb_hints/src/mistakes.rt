@@ -6,15 +6,16 @@
 //! Its rows: `tests/rows/hints.txt`.
 
 use crate::coded::{address_twice, code_twice, name_hint};
-use crate::forms::form_hint;
+use crate::forms::{form_hint, is_of_kind};
 use crate::initial::initial_hint;
 use crate::keyed::Keyed;
 use crate::keys::{missing_code, missing_key, no_array, unknown_key, wrong_type};
 use crate::lines::Hints;
-use crate::lists::{address_ignored, ignored_hint, modes_hint};
+use crate::lists::{address_ignored, ignored_hint, modes_hint, one_mode_hint};
 use crate::numbers::{address_hint, many_hint, out_of_range, unknown_word};
+use crate::vid::{vid_hint, vid_type};
 use crate::words::{
-    BEFORE_DIRECT, CALL, COEFFICIENTS, COMMAND, DEVICE, KIND, PEC, READ, TOP, WRITE, Words,
+    BEFORE_DIRECT, CALL, COEFFICIENTS, COMMAND, DEVICE, DIRECT, KIND, PEC, READ, TOP, WRITE, Words,
 };
 use pmb_table::FaultKind;
 
@@ -25,6 +26,8 @@ enum Mistake {
     UnknownKey(Words),
     /// One of these keys is not there.
     MissingKey(Words),
+    /// One of these keys is not there, and the kind is this one.
+    MissingOfKind(&'static str, Words),
     /// The value of one of these keys has another type than it needs.
     WrongType(Words),
     /// The number of a key is not from one to the other.
@@ -37,8 +40,8 @@ enum Mistake {
     Word(&'static str, &'static str, &'static str),
     /// A key is there.
     Key(&'static str, &'static str),
-    /// A key is there, and the kind is not `direct`.
-    KeyOfDirect(&'static str),
+    /// A key is there, and the kind is none of these.
+    KeyOfKinds(&'static str, Words, &'static str),
     /// Neither `code` nor `name` is there.
     NoCode,
     /// There are too many devices.
@@ -61,8 +64,14 @@ enum Mistake {
     Ignored,
     /// The address of a device is ignored.
     AddressIgnored,
-    /// A list of VOUT_MODE has not one for each page, or different ones where there is one for all.
+    /// A list of VOUT_MODE has not one for each page.
     Modes,
+    /// A list of VOUT_MODE has different ones where there is one for all pages.
+    OneMode,
+    /// `vid`, or what is in it, has another type than it needs.
+    VidType,
+    /// A VID table is unknown, a list has not one for each page, or a key is no type.
+    Vid,
     /// Whatever the keys are, this line is written.
     Always(&'static str),
 }
@@ -103,12 +112,15 @@ const VALUES_OF_DEVICE: &[Mistake] = &[
     Mistake::UnknownWord("pec", PEC),
     Mistake::OutOfRange("vout_mode", 0, 255),
     Mistake::Modes,
+    Mistake::Vid,
+    Mistake::OneMode,
 ];
 
 /// What is wrong with the types of the keys after `vout_direct`.
 const TYPES_AFTER_DIRECT: &[Mistake] = &[
     Mistake::NoArray("command", EACH_COMMAND),
     Mistake::WrongType(&["name"]),
+    Mistake::VidType,
 ];
 
 const NAME_OF_DEVICE: &[Mistake] = &[Mistake::Key(
@@ -123,13 +135,13 @@ const ADDRESS_TWICE: &[Mistake] = &[Mistake::AddressTwice];
 const PAGES: &[Mistake] = &[Mistake::OutOfRange("pages", 1, 32)];
 
 /// What is wrong with the keys of `vout_direct`, which are checked after those of their device.
-const UNKNOWN_OF_DIRECT: &[Mistake] = &[Mistake::UnknownKey(COEFFICIENTS)];
+const UNKNOWN_OF_DIRECT: &[Mistake] = &[Mistake::UnknownKey(DIRECT)];
 
-const TYPES_OF_DIRECT: &[Mistake] = &[Mistake::WrongType(COEFFICIENTS)];
+const TYPES_OF_DIRECT: &[Mistake] = &[Mistake::WrongType(DIRECT)];
 
-/// What is wrong with coefficients that are missing, or have no sound values, in either place.
-const MISSING_COEFFICIENT: &[Mistake] = &[Mistake::MissingKey(COEFFICIENTS)];
+const MISSING_OF_DIRECT: &[Mistake] = &[Mistake::MissingKey(COEFFICIENTS)];
 
+/// What is wrong with coefficients that have no sound values, in either place.
 const BAD_COEFFICIENTS: &[Mistake] = &[
     Mistake::Number(
         "m",
@@ -144,31 +156,42 @@ const BAD_COEFFICIENTS: &[Mistake] = &[
 /// What is wrong with the keys of a command.
 const UNKNOWN_OF_COMMAND: &[Mistake] = &[
     Mistake::UnknownKey(COMMAND),
-    Mistake::KeyOfDirect("m"),
-    Mistake::KeyOfDirect("b"),
-    Mistake::KeyOfDirect("r"),
-    Mistake::Key(
+    Mistake::KeyOfKinds("m", &["direct"], WITH_DIRECT),
+    Mistake::KeyOfKinds("b", &["direct"], WITH_DIRECT),
+    Mistake::KeyOfKinds("r", &["direct"], WITH_DIRECT),
+    Mistake::KeyOfKinds(
         "exponent",
-        "this key goes with kind = \"linear11\" alone, from the key or the standard",
+        &["linear11", "ulinear16", "slinear16"],
+        WITH_LINEAR,
     ),
+    Mistake::KeyOfKinds("unsigned", &["direct"], WITH_DIRECT),
 ];
 
-const MISSING_OF_COMMAND: &[Mistake] = &[Mistake::NoCode, Mistake::MissingKey(COEFFICIENTS)];
+const WITH_DIRECT: &str = "this key goes with kind = \"direct\" alone";
+
+const WITH_LINEAR: &str =
+    "this key goes with kind = \"linear11\", \"ulinear16\" or \"slinear16\" alone, from the key or \
+     the standard";
+
+const MISSING_OF_COMMAND: &[Mistake] = &[
+    Mistake::NoCode,
+    Mistake::MissingOfKind("direct", COEFFICIENTS),
+    Mistake::MissingOfKind("ulinear16", &["exponent"]),
+    Mistake::MissingOfKind("slinear16", &["exponent"]),
+];
 
 const TYPES_OF_COMMAND: &[Mistake] = &[Mistake::WrongType(COMMAND)];
 
 const VALUES_OF_COMMAND: &[Mistake] = &[
     Mistake::OutOfRange("code", 0, 255),
-    Mistake::Word("kind", "slinear16", SLINEAR16),
-    Mistake::Word("kind", "linear16", ULINEAR16),
-    Mistake::Word("kind", "ulinear16", ULINEAR16),
+    Mistake::Word(
+        "kind",
+        "linear16",
+        "it is kind = \"vout\", and vout_mode has the exponent",
+    ),
     Mistake::UnknownWord("kind", KIND),
     Mistake::OutOfRange("exponent", -16, 15),
 ];
-
-const SLINEAR16: &str = "it is kind = \"vout_signed\", and vout_mode has the exponent";
-
-const ULINEAR16: &str = "it is kind = \"vout\", and vout_mode has the exponent";
 
 const UNKNOWN_NAME: &[Mistake] = &[Mistake::UnknownName];
 
@@ -216,7 +239,7 @@ fn rows_of_device(what: FaultKind) -> &'static [Mistake] {
 fn rows_of_direct(what: FaultKind) -> &'static [Mistake] {
     match what {
         FaultKind::UnknownKey => UNKNOWN_OF_DIRECT,
-        FaultKind::MissingKey => MISSING_COEFFICIENT,
+        FaultKind::MissingKey => MISSING_OF_DIRECT,
         FaultKind::WrongType => TYPES_OF_DIRECT,
         FaultKind::BadCoefficients => BAD_COEFFICIENTS,
         _ => &[],
@@ -256,9 +279,11 @@ impl Mistake {
                 keyed.has_word(key, word) && keyed.rule(key, rule, lines)
             }
             Mistake::Key(key, rule) => keyed.rule(key, rule, lines),
-            Mistake::KeyOfDirect(key) => {
-                keyed.text("kind") != Some("direct")
-                    && keyed.rule(key, "this key goes with kind = \"direct\" alone", lines)
+            Mistake::MissingOfKind(kind, keys) => {
+                is_of_kind(keyed, &[kind]) && missing_key(keyed, keys, lines)
+            }
+            Mistake::KeyOfKinds(key, kinds, rule) => {
+                !is_of_kind(keyed, kinds) && keyed.rule(key, rule, lines)
             }
             _ => self.is_found(keyed, lines),
         }
@@ -279,6 +304,9 @@ impl Mistake {
             Mistake::Ignored => ignored_hint(keyed, lines),
             Mistake::AddressIgnored => address_ignored(keyed, lines),
             Mistake::Modes => modes_hint(keyed, lines),
+            Mistake::OneMode => one_mode_hint(keyed, lines),
+            Mistake::VidType => vid_type(keyed, lines),
+            Mistake::Vid => vid_hint(keyed, lines),
             Mistake::Always(line) => lines.try_push_str(line).is_ok(),
             _ => false,
         }

@@ -9,7 +9,7 @@ use arrayvec::ArrayString;
 use std::fmt::Write;
 
 /// A rule as it is written after a key and its value.
-type Rule = ArrayString<128>;
+pub(crate) type Rule = ArrayString<256>;
 
 /// Writes the value of a key whose number is outside of two, if it is, and its rule.
 pub(crate) fn out_of_range(
@@ -36,19 +36,28 @@ pub(crate) fn unknown_word(keyed: Keyed<'_>, key: &str, words: Words, lines: &mu
     let Some(text) = keyed.text(key) else {
         return false;
     };
+    match unknown_rule(text, words) {
+        Some(rule) => keyed.rule(key, rule.as_str(), lines),
+        None => false,
+    }
+}
+
+/// The rule that a word breaks that is none of some, if it is none: the one that may have been meant, or
+/// all of them.
+pub(crate) fn unknown_rule(text: &str, words: Words) -> Option<Rule> {
     if is_among(words, text) {
-        return false;
+        return None;
     }
     let mut rule = Rule::new();
     if let Some(meant) = similar(text, words) {
         let _ = write!(rule, "did you mean \"{meant}\"?");
-    } else {
-        let _ = rule.try_push_str("it is one of");
-        for word in words {
-            let _ = write!(rule, " \"{word}\"");
-        }
+        return Some(rule);
     }
-    keyed.rule(key, rule.as_str(), lines)
+    let _ = rule.try_push_str("it is one of");
+    for word in words {
+        let _ = write!(rule, " \"{word}\"");
+    }
+    Some(rule)
 }
 
 /// Writes how many devices there are, where they are too many.

@@ -12,7 +12,6 @@ use Rattle.pmb_command.specs.declared.form.Form.{Form}
 use Rattle.pmb_command.specs.declared.form.Form.TheVariants.{Two}
 use Rattle.pmb_command.specs.Parts.{DeviceParts}
 use Rattle.pmb_command.specs.Wire.{Fits, wire}
-use Rattle.pmb_format.specs.Coding.{value_of}
 use Rattle.pmb_transaction.specs.Packet.{Packet, leg, nacked}
 use Rattle.pmb_transaction.specs.Transaction.{TransactionData}
 use Rattle.pmb_device.specs.declared.signal.HostSignal.TheVariants.{Stop}
@@ -26,11 +25,11 @@ use Rattle.pmb_host.specs.declared.step.HostFault.{HostFault}
 use Rattle.pmb_host.specs.declared.step.HostStep.{HostStep}
 use Rattle.pmb_host.specs.declared.step.HostStep.TheVariants.{Done, Failed}
 use Rattle.pmb_host.specs.declared.step.Reply.{Reply}
-use Rattle.pmb_host.specs.declared.step.Reply.TheVariants.{Written, Bytes, Value}
+use Rattle.pmb_host.specs.declared.step.Reply.TheVariants.{Written, Bytes, Value, NoValue}
 use Rattle.pmb_host.specs.Host.{Ends, FirstSteps, HostStanding, HostStandsAt, IsDone, Steps, heard_with}
-use Rattle.pmb_value.specs.NumberFormat.{number_coding}
+use Rattle.pmb_value.specs.WordFault.{value_in}
 use Rattle.pmb_host.specs.Signals.{Say, SayReply, legs_of, reply_form, reply_has_pec}
-use Rattle.pmb_host.specs.Steps.{Completes, Fails, IsTold, OneValue, ReplyData, SaysReply, Succeeds, bytes}
+use Rattle.pmb_host.specs.Steps.{Completes, Fails, IsTold, ReplyData, SaysReply, Succeeds, bytes, told_word}
 use Rattle.pmb_host.specs.Steps.{bytes_before, bytes_read, reply_data, value, written}
 use Rattle.pmb_host.specs.Task.{replied, word_bytes}
 use Rattle.pmb_host.specs.machine.Replies.{Holds, told_data}
@@ -80,16 +79,16 @@ no_form (Some form) with_pec read kept = absurd kept
 -- ---- what is told of them
 
 -- a value of two bytes is that of their word
-told_word : (format : NumberFormat) (content : List ℕ) → Fits Two content → (word : ℕ) × (content ≡ word_bytes word)
-    × (told_data (Some format) content ≡ OneValue (value_of (number_coding format) word))
-told_word format [] fits = absurd (cc fits.taken)
-told_word format (b ∷ []) fits = absurd (cc fits.taken)
-told_word format (low ∷ high ∷ []) fits =
+word_told : (format : NumberFormat) (content : List ℕ) → Fits Two content → (word : ℕ) × (content ≡ word_bytes word)
+    × (told_data (Some format) content ≡ told_word (value_in format word))
+word_told format [] fits = absurd (cc fits.taken)
+word_told format (b ∷ []) fits = absurd (cc fits.taken)
+word_told format (low ∷ high ∷ []) fits =
     let small = fits.small.0 in
     let high_is : high ≡ (low + 256 * high) / 256 = omega (arith, small) in
     let low_is : low ≡ (low + 256 * high) % 256 = omega (arith, small) in
     (low + 256 * high, cc (low_is, high_is), refl)
-told_word format (a ∷ b ∷ c ∷ content) fits = absurd (omega (arith, fits.taken))
+word_told format (a ∷ b ∷ c ∷ content) fits = absurd (omega (arith, fits.taken))
 
 module _ (job : Job) where
   told_of : (number : Option NumberFormat) (content : List ℕ) (told : ReplyData)
@@ -98,7 +97,7 @@ module _ (job : Job) where
       → IsTold job.profile job.task number content told
   told_of None content told some two is = bytes some refl is
   told_of (Some format) content told some two is =
-      let word = told_word format content (two format refl) in
+      let word = word_told format content (two format refl) in
       value format word.0 refl word.1 (is ∙ word.2)
 
 -- what is seen of a reply tells it apart
@@ -106,13 +105,20 @@ same_reply : (a b : Reply) → reply_data a ≡ reply_data b → a ≡ b
 same_reply Written Written same = refl
 same_reply Written (Bytes b) same = absurd (cc same)
 same_reply Written (Value b) same = absurd (cc same)
+same_reply Written NoValue same = absurd (cc same)
 same_reply (Bytes a) Written same = absurd (cc same)
 same_reply (Bytes a) (Bytes b) same = let items : a.items ≡ b.items = cc same in
     ap (λ (items : List ℕ). Bytes (record { items = items })) items
 same_reply (Bytes a) (Value b) same = absurd (cc same)
+same_reply (Bytes a) NoValue same = absurd (cc same)
 same_reply (Value a) Written same = absurd (cc same)
 same_reply (Value a) (Bytes b) same = absurd (cc same)
 same_reply (Value a) (Value b) same = let values : a ≡ b = cc same in ap Value values
+same_reply (Value a) NoValue same = absurd (cc same)
+same_reply NoValue Written same = absurd (cc same)
+same_reply NoValue (Bytes b) same = absurd (cc same)
+same_reply NoValue (Value b) same = absurd (cc same)
+same_reply NoValue NoValue same = refl
 
 -- ---- the end
 

@@ -8,7 +8,7 @@ use Rattle.pmb_coefficients.specs.Coefficients.{Coefficients}
 use Rattle.pmb_coefficients.specs.Exponent.{IsExponent}
 use Rattle.pmb_command.specs.declared.entry.Kind.{Kind}
 use Rattle.pmb_command.specs.declared.entry.Kind.TheVariants as kinds
-use Rattle.pmb_command.specs.Bus.{IsBus}
+use Rattle.pmb_command.specs.Bus.{IsBus, KeepsRanges}
 use Rattle.pmb_command.specs.Parts.{CommandParts, DeviceParts, command_with}
 use Rattle.pmb_format.specs.Coding.{Coding, IsAbove, IsBelow, IsInRange}
 use Rattle.pmb_linear.proofs.FixedExponent.{rises-linear11_fixed}
@@ -19,6 +19,9 @@ use Rattle.pmb_value.specs.declared.vout.ModeFault.{ModeFault}
 use Rattle.pmb_value.specs.declared.vout.VoutFormat.{VoutFormat}
 use Rattle.pmb_value.specs.declared.vout.VoutFormat.TheVariants.{Unsigned, Signed, Direct}
 use Rattle.pmb_value.specs.Vout.{format_of}
+use Rattle.pmb_vid.specs.Vid.{vid}
+use Rattle.pmb_vid.specs.declared.table.VidTable.{VidTable}
+use Rattle.pmb_vid.specs.declared.table.VidTable.TheVariants.{Vr11, Vr12, Vr13, Imvp9, Amd625mv, Nvidia195mv}
 use Rattle.pmb_writer.specs.Invalid.{Rule, transaction_rules}
 use Rattle.pmb_writer.proofs.Packets.{packet_keeps}
 use Rattle.pmb_writer.proofs.Rules.{not_both, one_broken}
@@ -74,15 +77,23 @@ vout_word sign coefficients (Some mode) exponent is =
 -- an exponent that is fixed is the command's
 fixed_kind : (coefficients : Option Coefficients) (mode : Option ℕ) (kind : Kind) (exponent : ℤ)
     → Ok (formats.Linear11Fixed exponent) ≡ number_of coefficients mode kind
-    → kind ≡ kinds.Linear11Fixed exponent
+    → kind ≡ kinds.Number (formats.Linear11Fixed exponent)
 fixed_kind coefficients mode kinds.Raw exponent is = absurd (cc is)
-fixed_kind coefficients mode kinds.Linear11 exponent is = absurd (cc is)
-fixed_kind coefficients mode (kinds.Linear11Fixed other) exponent is = cc is
+fixed_kind coefficients mode (kinds.Number format) exponent is =
+    let same : formats.Linear11Fixed exponent ≡ format = cc is in ap kinds.Number (sym same)
 fixed_kind coefficients mode kinds.Vout exponent is = absurd (vout_word signs.Unsigned coefficients mode exponent is)
 fixed_kind coefficients mode kinds.VoutSigned exponent is =
     absurd (vout_word signs.Signed coefficients mode exponent is)
-fixed_kind coefficients mode (kinds.Direct d) exponent is = absurd (cc is)
 fixed_kind coefficients mode kinds.Status exponent is = absurd (cc is)
+
+-- each VID table has a code
+first_code : (table : VidTable) → (code : ℕ) × (vid table).IsCode code
+first_code Vr11 = (2, (omega arith, omega arith))
+first_code Vr12 = (1, (omega arith, omega arith))
+first_code Vr13 = (1, (omega arith, omega arith))
+first_code Imvp9 = (1, (omega arith, omega arith))
+first_code Amd625mv = (0, (omega arith, omega arith))
+first_code Nvidia195mv = (1, (omega arith, omega arith))
 
 -- each format has a code
 some_code : (number : NumberFormat) → ((exponent : ℤ) → number ≡ formats.Linear11Fixed exponent → IsExponent exponent)
@@ -93,6 +104,8 @@ some_code (formats.Linear11Fixed exponent) fits =
 some_code (formats.Word (Unsigned exponent)) fits = (0, omega arith)
 some_code (formats.Word (Signed exponent)) fits = (0, omega arith)
 some_code (formats.Word (Direct d)) fits = (0, omega arith)
+some_code formats.Half fits = (0, (omega arith, λ same. omega (arith, same)))
+some_code (formats.Vid table) fits = first_code table
 
 module _ (profile : List DeviceParts) (c : Command) where
   -- ---- one number format
@@ -147,8 +160,8 @@ module _ (profile : List DeviceParts) (c : Command) where
       let command = command_is found.device c.code found.command device.0 found.has in
       let format : Ok (formats.Linear11Fixed exponent)
       ≡ number_of found.device.vout_direct mode found.command.entry.kind = sym (ap Ok is) ∙ found.number_is in
-      command.0.entry.fitting.exponent exponent
-      (fixed_kind found.device.vout_direct mode found.command.entry.kind exponent format)
+      subst KeepsRanges (fixed_kind found.device.vout_direct mode found.command.entry.kind exponent format)
+      command.0.entry.fitting.ranges
 
   one_side : (mode : Option ℕ) (number : NumberFormat) (value : Fraction) (a b : HostFault) → IsBus profile
       → HasNumber profile c mode number

@@ -12,7 +12,7 @@ use Rattle.pmb_command.specs.declared.entry.Kind.{Kind}
 use Rattle.pmb_command.specs.declared.entry.Kind.TheVariants as kinds
 use Rattle.pmb_command.specs.declared.form.Form.{Form}
 use Rattle.pmb_command.specs.declared.form.Form.TheVariants.{Zero}
-use Rattle.pmb_command.specs.Bus.{IsBus}
+use Rattle.pmb_command.specs.Bus.{IsBus, KeepsRanges}
 use Rattle.pmb_command.specs.Parts.{DeviceParts, command_with, device_with}
 use Rattle.pmb_command.specs.PecMode.{AllowsPec}
 use Rattle.pmb_command.specs.Wire.{Fits}
@@ -24,7 +24,8 @@ use Rattle.pmb_quantity.specs.Fraction.{Fraction}
 use Rattle.pmb_transaction.specs.Transaction.{Write}
 use Rattle.pmb_transaction.proofs.Known.{command_is, device_is}
 use Rattle.pmb_value.specs.Answers.{HasAnswers}
-use Rattle.pmb_value.specs.NumberFormat.{number_coding}
+use Rattle.pmb_value.specs.NumberFormat.{IsFormat, number_coding}
+use Rattle.pmb_vid.specs.declared.table.VidTable.{VidTable}
 use Rattle.pmb_value.specs.Vout.{direct_of, format_of, linear_of}
 use Rattle.pmb_value.specs.declared.number_format.NumberFormat.{NumberFormat}
 use Rattle.pmb_value.specs.declared.number_format.NumberFormat.TheVariants as formats
@@ -42,7 +43,7 @@ use Rattle.pmb_value.specs.declared.sign.Sign.TheVariants as signs
 use Rattle.pmb_host.specs.declared.step.HostFault.{HostFault}
 use Rattle.pmb_host.specs.declared.step.HostFault.TheVariants as faults
 use Rattle.pmb_host.specs.Number.{is_signed, named_format, number_of, vout_number}
-use Rattle.pmb_host.specs.Requests.{IsSound, KindMakesFormat, MakeFormats}
+use Rattle.pmb_host.specs.Requests.{IsSound, MakeFormats}
 use Rattle.pmb_host.specs.Rules.{HasData, HasNoNumber, HasNumber, IsAllowed, IsFault, IsNumber, IsRefusedBy, above}
 use Rattle.pmb_host.specs.Rules.{below, call_rules, get_rules, no_format, no_number, no_quantity, outside, read_rules}
 use Rattle.pmb_host.specs.Rules.{refused, set_rules, wrong_pec}
@@ -60,6 +61,8 @@ pub record AreGood : Type 0 where
   pub unsigned : (exponent : ℤ) → IsExponent exponent → IsGood (formats.Word (Unsigned exponent))
   pub signed : (exponent : ℤ) → IsExponent exponent → IsGood (formats.Word (Signed exponent))
   pub direct : (d : Coefficients) → MakeFormat d → IsGood (formats.Word (Direct d))
+  pub half : IsGood formats.Half
+  pub vid : (table : VidTable) → IsGood (formats.Vid table)
 
 abbrev IfGood : Result NumberFormat HostFault → Type 0
 IfGood (Ok number) = IsGood number
@@ -86,10 +89,14 @@ module _ (laws : AreGood) where
   linear_good true exponent is = record { good = laws.signed exponent is }
   linear_good false exponent is = record { good = laws.unsigned exponent is }
 
-  direct_good : (coefficients : Option Coefficients) → IfSome coefficients MakeFormat
-      → NamedGood (direct_of coefficients)
-  direct_good None make = none_good NoCoefficients
-  direct_good (Some d) make = record { good = laws.direct d make }
+  direct_good : (signed : Bool) (coefficients : Option Coefficients) → IfSome coefficients MakeFormat
+      → NamedGood (direct_of signed coefficients)
+  direct_good signed None make = none_good NoCoefficients
+  direct_good false (Some d) make = record { good = laws.direct d make }
+  direct_good true (Some d) make = record {
+    good = laws.direct (record d { unsigned = false })
+        (record { slope = make.slope; least = make.least; greatest = make.greatest });
+  }
 
   format_good : (mode : ℕ) (signed : Bool) (coefficients : Option Coefficients) → IfSome coefficients MakeFormat
       → NamedGood (format_of mode signed coefficients)
@@ -100,7 +107,8 @@ module _ (laws : AreGood) where
       chosen_good (mode / 2 ^ 7 == 1) (Err Relative) _ (none_good Relative)
       (chosen_good (kind == 1) (Err Vid) _ (none_good Vid)
       (chosen_good (kind == 3) (Err Ieee) _ (none_good Ieee)
-      (chosen_good (kind == 2) (direct_of coefficients) (Ok (linear_of signed exponent)) (direct_good coefficients make)
+      (chosen_good (kind == 2) (direct_of signed coefficients) (Ok (linear_of signed exponent))
+      (direct_good signed coefficients make)
       (linear_good signed exponent (field_5 (mode % 2 ^ 5) small)))))
 
   named_good : (named : Result VoutFormat ModeFault) → NamedGood named → IfGood (named_format named)
@@ -113,17 +121,23 @@ module _ (laws : AreGood) where
   vout_good sign coefficients (Some mode) make = named_good (format_of mode (is_signed sign) coefficients)
       (format_good mode (is_signed sign) coefficients make)
 
+  -- a format of a command's own
+  own_good : (format : NumberFormat) → IsFormat format → IsGood format
+  own_good formats.Linear11 is = laws.linear11
+  own_good (formats.Linear11Fixed exponent) is = laws.fixed exponent is
+  own_good (formats.Word (Unsigned exponent)) is = laws.unsigned exponent is
+  own_good (formats.Word (Signed exponent)) is = laws.signed exponent is
+  own_good (formats.Word (Direct d)) is = laws.direct d is
+  own_good formats.Half is = laws.half
+  own_good (formats.Vid table) is = laws.vid table
+
   number_good : (coefficients : Option Coefficients) (mode : Option ℕ) (kind : Kind) → IfSome coefficients MakeFormat
-      → KindMakesFormat kind
-      → ((exponent : ℤ) → kind ≡ kinds.Linear11Fixed exponent → IsExponent exponent)
-      → IfGood (number_of coefficients mode kind)
-  number_good coefficients mode kinds.Raw make own exponent = tt
-  number_good coefficients mode kinds.Linear11 make own exponent = laws.linear11
-  number_good coefficients mode (kinds.Linear11Fixed fixed) make own exponent = laws.fixed fixed (exponent fixed refl)
-  number_good coefficients mode kinds.Vout make own exponent = vout_good signs.Unsigned coefficients mode make
-  number_good coefficients mode kinds.VoutSigned make own exponent = vout_good signs.Signed coefficients mode make
-  number_good coefficients mode (kinds.Direct d) make own exponent = laws.direct d own
-  number_good coefficients mode kinds.Status make own exponent = tt
+      → KeepsRanges kind → IfGood (number_of coefficients mode kind)
+  number_good coefficients mode kinds.Raw make own = tt
+  number_good coefficients mode (kinds.Number format) make own = own_good format own
+  number_good coefficients mode kinds.Vout make own = vout_good signs.Unsigned coefficients mode make
+  number_good coefficients mode kinds.VoutSigned make own = vout_good signs.Signed coefficients mode make
+  number_good coefficients mode kinds.Status make own = tt
 
 -- ---- requests
 
@@ -233,10 +247,9 @@ module _ (profile : List DeviceParts) (bus : IsBus profile) (formed : MakeFormat
         let found = has.number_is in
         let device = device_is profile c.addr found.device bus found.known in
         let command = command_is found.device c.code found.command device.0 found.has in
-        let vout = formed.vout c.addr found.device found.known in
-        let own = formed.commands c.addr c.code found.device found.command found.known found.has in
+        let vout = formed c.addr found.device found.known in
         subst IfGood (sym found.number_is) (number_good good found.device.vout_direct mode found.command.entry.kind vout
-        own command.0.entry.fitting.exponent)
+        command.0.entry.fitting.ranges)
 
   -- ---- requests
 

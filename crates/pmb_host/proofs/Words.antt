@@ -1,6 +1,6 @@
 -- A command with a number format takes two bytes, those of a word. For `Host::next` (`Recorded`
--- and `Ending` use it). Each kind with a number fits form Two alone, and the codes of each format
--- are below 65,536.
+-- and `Ending` use it) and the packet of a quantity that is set (`Asked`). Each kind with a number
+-- fits form Two alone, and the codes of each format are below 65,536.
 use Rattle.std.proofs.Common.{◌≡◌, ◌≢◌, ℕ, ◌<◌, true, ◌||◌, if◌then◌else◌, Option, Some, None, is_some, List, refl, ap}
 use Rattle.std.proofs.Common.{subst, ◌∙◌, arith}
 use Rattle.std.specs.Prelude.{Ok}
@@ -17,11 +17,14 @@ use Rattle.pmb_command.specs.Wire.{Fits}
 use Rattle.pmb_transaction.specs.Body.{shape_of}
 use Rattle.pmb_transaction.proofs.Known.{command_is, device_is}
 use Rattle.pmb_value.specs.declared.vout.VoutFormat.TheVariants.{Unsigned, Signed, Direct}
+use Rattle.pmb_vid.specs.Vid.{vid}
+use Rattle.pmb_vid.specs.declared.table.VidTable.{VidTable}
+use Rattle.pmb_vid.specs.declared.table.VidTable.TheVariants.{Vr11, Vr12, Vr13, Imvp9, Amd625mv, Nvidia195mv}
 use Rattle.pmb_writer.specs.Invalid.{forms_at}
 use Rattle.pmb_quantity.specs.Fraction.{Fraction}
 use Rattle.pmb_request.specs.Request.{Command, RequestData, WriteParts, ReadBytes, CallBytes, Set, Get}
 use Rattle.pmb_value.specs.declared.number_format.NumberFormat.{NumberFormat}
-use Rattle.pmb_value.specs.declared.number_format.NumberFormat.TheVariants.{Linear11, Linear11Fixed, Word}
+use Rattle.pmb_value.specs.declared.number_format.NumberFormat.TheVariants.{Linear11, Linear11Fixed, Word, Half, Vid}
 use Rattle.pmb_value.specs.NumberFormat.{number_coding}
 use Rattle.pmb_host.specs.Number.{number_of}
 use Rattle.pmb_host.specs.Rules.{CanSet, HasData, HasNumber, IsAllowed}
@@ -70,12 +73,19 @@ number_fits : (coefficients : Option Coefficients) (mode : Option ℕ) (kind : K
     (form : Option Form) → Ok number ≡ number_of coefficients mode kind
     → kind_fits kind form ≡ true → is_form Two form ≡ true
 number_fits coefficients mode kinds.Raw number form is fits = absurd (cc is)
-number_fits coefficients mode kinds.Linear11 number form is fits = fits
-number_fits coefficients mode (kinds.Linear11Fixed exponent) number form is fits = fits
+number_fits coefficients mode (kinds.Number format) number form is fits = fits
 number_fits coefficients mode kinds.Vout number form is fits = fits
 number_fits coefficients mode kinds.VoutSigned number form is fits = fits
-number_fits coefficients mode (kinds.Direct d) number form is fits = fits
 number_fits coefficients mode kinds.Status number form is fits = absurd (cc is)
+
+-- the codes of a VID table are bytes
+vid_small : (table : VidTable) (word : ℕ) → (vid table).IsCode word → word < 65536
+vid_small Vr11 word is = omega (arith, is.1)
+vid_small Vr12 word is = omega (arith, is.1)
+vid_small Vr13 word is = omega (arith, is.1)
+vid_small Imvp9 word is = omega (arith, is.1)
+vid_small Amd625mv word is = omega (arith, is.1)
+vid_small Nvidia195mv word is = omega (arith, is.1)
 
 -- the codes of a format are words
 code_small : (number : NumberFormat) (word : ℕ) → (number_coding number).IsCode word → word < 65536
@@ -84,6 +94,8 @@ code_small (Linear11Fixed exponent) word is = is.0
 code_small (Word (Unsigned exponent)) word is = is
 code_small (Word (Signed exponent)) word is = is
 code_small (Word (Direct d)) word is = is
+code_small Half word is = is.0
+code_small (Vid table) word is = vid_small table word is
 
 -- the two bytes of a word
 pub word_fits : (word : ℕ) → word < 65536 → Fits Two (word_bytes word)

@@ -5,10 +5,9 @@ use Rattle.pmb_command.specs.declared.entry.Kind.{Kind}
 use Rattle.pmb_command.specs.declared.entry.Kind.TheVariants as kinds
 use Rattle.pmb_value.specs.declared.vout.ModeFault.{ModeFault}
 use Rattle.pmb_value.specs.declared.vout.VoutFormat.{VoutFormat}
-use Rattle.pmb_value.specs.declared.vout.VoutFormat.TheVariants.{Direct}
 use Rattle.pmb_value.specs.Vout.{format_of}
 use Rattle.pmb_value.specs.declared.number_format.NumberFormat.{NumberFormat}
-use Rattle.pmb_value.specs.declared.number_format.NumberFormat.TheVariants.{Linear11, Linear11Fixed, Word}
+use Rattle.pmb_value.specs.declared.number_format.NumberFormat.TheVariants.{Word}
 use Rattle.pmb_value.specs.declared.sign.Sign.{Sign}
 use Rattle.pmb_value.specs.declared.sign.Sign.TheVariants.{Unsigned, Signed}
 use Rattle.pmb_host.specs.declared.step.HostFault.{HostFault}
@@ -31,9 +30,7 @@ vout_number sign coefficients (Some mode) = named_format (format_of mode (is_sig
 -- status bits are no numbers.
 abbrev pub number_of : Option Coefficients → Option ℕ → Kind → Result NumberFormat HostFault
 number_of coefficients mode kinds.Raw = Err NotAQuantity
-number_of coefficients mode kinds.Linear11 = Ok Linear11
-number_of coefficients mode (kinds.Linear11Fixed exponent) = Ok (Linear11Fixed exponent)
+number_of coefficients mode (kinds.Number format) = Ok format
 number_of coefficients mode kinds.Vout = vout_number Unsigned coefficients mode
 number_of coefficients mode kinds.VoutSigned = vout_number Signed coefficients mode
-number_of coefficients mode (kinds.Direct d) = Ok (Word (Direct d))
 number_of coefficients mode kinds.Status = Err NotAQuantity

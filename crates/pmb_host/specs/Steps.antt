@@ -2,11 +2,10 @@
 --
 -- While all goes well it sends the signals of its transaction in order. After the first that does
 -- not go well it sends STOP, which is always the last one. Then it tells how it ended.
-use Rattle.std.specs.Prelude.{◌≡◌, ◌≢◌, ℕ, ◌+◌, Bool, true, ◌&&◌, Option, Some, None, List, [], ◌∷◌, ◌++◌, is_some}
+use Rattle.std.specs.Prelude.{◌≡◌, ◌≢◌, ℕ, ◌+◌, Bool, true, ◌&&◌, Option, Some, None, Result, Ok, Err, List, [], ◌∷◌, ◌++◌, is_some}
 use Rattle.std.specs.Prelude.{length, map, flat_map, nat_eq}
 use Rattle.std.specs.List.{AllByRecursion}
 use Rattle.pmb_command.specs.Parts.{DeviceParts}
-use Rattle.pmb_format.specs.Coding.{value_of}
 use Rattle.pmb_quantity.specs.Fraction.{Fraction}
 use Rattle.pmb_transaction.specs.Transaction.{TransactionData}
 use Rattle.pmb_transaction.specs.Packet.{Packet}
@@ -19,8 +18,9 @@ use Rattle.pmb_value.specs.declared.number_format.NumberFormat.{NumberFormat}
 use Rattle.pmb_host.specs.declared.step.HostFault.{HostFault}
 use Rattle.pmb_host.specs.declared.step.HostFault.TheVariants.{Refused, NoByte, BadPec}
 use Rattle.pmb_host.specs.declared.step.Reply.{Reply}
-use Rattle.pmb_host.specs.declared.step.Reply.TheVariants.{Written, Bytes, Value}
-use Rattle.pmb_value.specs.NumberFormat.{number_coding}
+use Rattle.pmb_host.specs.declared.step.Reply.TheVariants.{Written, Bytes, Value, NoValue}
+use Rattle.pmb_value.specs.WordFault.{value_in}
+use Rattle.pmb_value.specs.declared.number_format.WordFault.{WordFault}
 use Rattle.pmb_host.specs.Task.{replied, word_bytes}
 use Rattle.pmb_host.specs.Signals.{AreRead, Say, leg_signals, legs_of, reply_form, reply_has_pec, signals}
 
@@ -65,11 +65,19 @@ pub data ReplyData : Type 0 where
   AllWritten : ReplyData
   AllBytes : List ℕ → ReplyData
   OneValue : Fraction → ReplyData
+  -- a word without a value
+  NoQuantity : ReplyData
 
 abbrev pub reply_data : Reply → ReplyData
 reply_data Written = AllWritten
 reply_data (Bytes bytes) = AllBytes bytes.items
 reply_data (Value value) = OneValue value
+reply_data NoValue = NoQuantity
+
+-- what is told of a word in a format
+abbrev pub told_word : Result Fraction WordFault → ReplyData
+told_word (Ok value) = OneValue value
+told_word (Err fault) = NoQuantity
 
 module _ (profile : List DeviceParts) (task : TransactionData) where
   -- the bytes of both legs before a reply
@@ -163,4 +171,4 @@ module _ (profile : List DeviceParts) (task : TransactionData) where
     written : reply_form profile task ≡ None → told ≡ AllWritten → IsTold number reply told
     bytes : is_some (reply_form profile task) ≡ true → number ≡ None → told ≡ AllBytes reply → IsTold number reply told
     value : (format : NumberFormat) (word : ℕ) → number ≡ Some format → reply ≡ word_bytes word
-        → told ≡ OneValue (value_of (number_coding format) word) → IsTold number reply told
+        → told ≡ told_word (value_in format word) → IsTold number reply told

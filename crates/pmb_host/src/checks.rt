@@ -3,7 +3,6 @@
 //! Its rows: `tests_host`, `src/host/faults.rt`; `tests/rows/requests.txt`.
 
 ghost use Rattle.std.specs.Prelude.{◌≡◌, List, MatchResult};
-ghost use Rattle.pmb_command.specs.Bus.{IsEntry};
 ghost use Rattle.pmb_command.specs.Entry.{entry_parts};
 ghost use Rattle.pmb_command.specs.PecMode.{AllowsPec};
 ghost use Rattle.pmb_writer.specs.Invalid.{IsFirstBroken, forms_at};
@@ -100,7 +99,6 @@ fn format_of(
     mode: Option<u8>,
     pec: bool,
 ) -> Result<NumberFormat, HostFault>
-    requires { IsEntry (entry_parts entry.now) }
     ensures { (profile : List DeviceParts) (c : Command) → Finds profile c.addr c.code device.now (entry_parts entry.now) → c.pec ≡ pec
         → MatchResult result (HasNumber profile c mode) (HasNoNumber profile c mode) }
 {

@@ -17,8 +17,9 @@ ghost use Rattle.pmb_host.specs.Signals.{AreRead, legs_of, reply_form, reply_has
 ghost use Rattle.pmb_host.specs.Task.{replied, task_of};
 
 use pmb_value::laws::{
-    direct_has_one_nearest, linear11_fixed_has_one_nearest, linear11_has_one_nearest,
-    quantities_have_answers, slinear16_has_one_nearest, ulinear16_has_one_nearest,
+    direct_has_one_nearest, half_has_one_nearest, linear11_fixed_has_one_nearest,
+    linear11_has_one_nearest, quantities_have_answers, slinear16_has_one_nearest,
+    ulinear16_has_one_nearest, vid_has_one_nearest,
 };
 
 /// A request that is allowed has no fault, so a host is made exactly where there is none.
@@ -33,8 +34,8 @@ pub fn one_first_fault()
         → IsBus profile → IsFault profile request a → IsFault profile request b → a ≡ b }
 {}
 
-/// A request is allowed, or has a first fault, under an accepted profile whose coefficients make
-/// formats.
+/// A request is allowed, or has a first fault, under an accepted profile whose coefficients of output
+/// voltages make formats.
 pub fn allowed_or_fault()
     ensures { (profile : List DeviceParts) (request : RequestData) → IsBus profile → MakeFormats profile → IsSound request
         → ((word : ℕ) × (number : Option NumberFormat) × IsAllowed profile request word number) ⊎ ((fault : HostFault) × IsFault profile request fault) }
@@ -45,6 +46,8 @@ pub fn allowed_or_fault()
     ulinear16_has_one_nearest();
     slinear16_has_one_nearest();
     direct_has_one_nearest();
+    half_has_one_nearest();
+    vid_has_one_nearest();
 }
 
 /// A read or a call is `Invalid` where a transaction with a reply that fits would be, and for that reason

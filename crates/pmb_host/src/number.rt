@@ -2,19 +2,15 @@
 //!
 //! Its rows: `tests_host`, `src/host/faults.rt`, `src/host/ends.rt`.
 
-ghost use Rattle.std.specs.Prelude.{◌≡◌, ℕ, ℤ, MatchResult};
+ghost use Rattle.std.specs.Prelude.{◌≡◌, ℕ, MatchResult};
 ghost use Rattle.pmb_format.specs.Coding.{IsInRange, IsNearest};
-ghost use Rattle.pmb_linear.specs.Linear.{IsExponent};
 ghost use Rattle.pmb_value.specs.NumberFormat.{number_coding};
 ghost use Rattle.pmb_host.specs.Number.{number_of, vout_number};
 ghost use Rattle.pmb_host.specs.Rules.{IsOutside};
 
 use crate::step::HostFault;
 use pmb_command::Kind;
-use pmb_value::{
-    Direct, Format, Linear11Fixed, NumberFormat, Quantity, RangeFault, Sign, Steps, VoutFormat,
-    vout_format,
-};
+use pmb_value::{Direct, Format, NumberFormat, Quantity, RangeFault, Sign, Steps, vout_format};
 
 /// Only one code of a format is nearest to a quantity. It does nothing.
 fn one_word(format: NumberFormat, value: &Quantity)
@@ -54,32 +50,18 @@ fn vout_number(
     }
 }
 
-/// LINEAR11 with an exponent that is one of its own.
-fn fixed(exponent: i8) -> Linear11Fixed
-    requires { IsExponent exponent }
-    ensures { result ≡ exponent }
-{
-    match Linear11Fixed::new(exponent) {
-        Ok(format) => format,
-        Err(_) => unreachable!(),
-    }
-}
-
 /// The format of a kind of command, by the coefficients and the VOUT_MODE of its device.
 pub(crate) fn number_of(
     coefficients: Option<Direct>,
     mode: Option<u8>,
     kind: Kind,
 ) -> Result<NumberFormat, HostFault>
-    requires { (exponent : ℤ) → kind ≡ Kind.Linear11Fixed exponent → IsExponent exponent }
     ensures { result ≡ number_of coefficients mode kind }
 {
     match kind {
         Kind::Raw | Kind::Status => Err(HostFault::NotAQuantity),
-        Kind::Linear11 => Ok(NumberFormat::Linear11),
-        Kind::Linear11Fixed(exponent) => Ok(NumberFormat::Linear11Fixed(fixed(exponent))),
+        Kind::Number(format) => Ok(format),
         Kind::Vout => vout_number(Sign::Unsigned, coefficients, mode),
         Kind::VoutSigned => vout_number(Sign::Signed, coefficients, mode),
-        Kind::Direct(direct) => Ok(NumberFormat::Word(VoutFormat::Direct(direct))),
     }
 }

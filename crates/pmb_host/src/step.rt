@@ -27,6 +27,8 @@ pub enum Reply {
     Bytes(ArrayVec<u8, 255>),
     /// The quantity that was read.
     Value(Quantity),
+    /// A word was read that has no value in the command's format.
+    NoValue,
 }
 
 /// Why a request can't be made, or failed on the bus.
@@ -38,7 +40,7 @@ pub enum HostFault {
     NotAQuantity,
     /// The command's format is that of a VOUT_MODE which is not known.
     ModeUnknown,
-    /// VOUT_MODE names no format.
+    /// VOUT_MODE names none of the formats that a host writes.
     Mode(ModeFault),
     /// The quantity is outside the format's range.
     Range(RangeFault),

@@ -9,23 +9,27 @@ use Rattle.std.proofs.Common.{ap, subst, arith}
 use Rattle.std.specs.List.{Contains}
 use Rattle.std.proofs.lemmas.List.Elements.{Contains-append_cases, Contains-append_left, Contains-append_right}
 use Rattle.pmb_command.specs.declared.entry.Kind.{Kind}
-use Rattle.pmb_command.specs.declared.entry.Kind.TheVariants.{Raw, Linear11, Linear11Fixed, Vout, VoutSigned, Direct}
-use Rattle.pmb_command.specs.declared.entry.Kind.TheVariants.{Status}
+use Rattle.pmb_command.specs.declared.entry.Kind.TheVariants.{Raw, Number, Vout, VoutSigned, Status}
 use Rattle.pmb_command.specs.Entry.{EntryParts}
 use Rattle.pmb_command.specs.Parts.{DeviceParts}
 use Rattle.pmb_json_fields.specs.declared.access.Access.{Access}
 use Rattle.pmb_json_fields.specs.declared.basis.Basis.{Basis}
 use Rattle.pmb_json_fields.specs.declared.basis.Basis.TheVariants.{Told, Assumed}
-use Rattle.pmb_json_fields.specs.Value.{basis_members, data_members, format_members, mode_fault_name, of_word}
-use Rattle.pmb_json_fields.specs.Value.{raw_members}
-use Rattle.pmb_json_fields.specs.Value.{value_members, vout_members}
-use Rattle.pmb_value.specs.declared.vout.ModeFault.{ModeFault}
-use Rattle.pmb_value.specs.declared.vout.VoutFormat.{VoutFormat}
-use Rattle.pmb_value.specs.Vout.{format_of, vout_coding}
+use Rattle.pmb_json_fields.specs.Value.{basis_members, data_members, format_members, marked_members, no_voltage_name}
+use Rattle.pmb_json_fields.specs.Value.{number_members, of_word, raw_members, status_members, voltage_members}
+use Rattle.pmb_json_fields.specs.Value.{vout_members, word_fault_name}
+use Rattle.pmb_quantity.specs.Fraction.{Fraction}
+use Rattle.pmb_value.specs.WordFault.{value_in}
+use Rattle.pmb_value.specs.declared.number_format.WordFault.{WordFault}
+use Rattle.pmb_value.specs.declared.sign.Sign.{Sign}
+use Rattle.pmb_value.specs.declared.sign.Sign.TheVariants.{Unsigned, Signed}
+use Rattle.pmb_voltage.specs.declared.voltage.NoVoltage.{NoVoltage}
+use Rattle.pmb_voltage.specs.declared.voltage.NoVoltage.TheVariants.{Unknown}
+use Rattle.pmb_voltage.specs.declared.voltage.VoltageFormat.{VoltageFormat}
+use Rattle.pmb_voltage.specs.Voltage.{voltage_format, voltages_of}
+use Rattle.pmb_voltage.proofs.Knowing.{knows_no_other}
 use Rattle.pmb_unknown_start.specs.Certain.{AgreesWith, known_as}
 use Rattle.pmb_unknown_start.specs.declared.mode.KnownMode.{KnownMode}
-use Rattle.pmb_unknown_start.specs.declared.mode.KnownMode.TheVariants.{Known, Unknown, NoPage}
-use Rattle.pmb_unknown_start.specs.Known.{mode}
 use Rattle.pmb_json_text.specs.Json.{null, string}
 use Rattle.pmb_json_text.specs.Member.{Member, count, named}
 use Rattle.pmb_places.specs.declared.places.Place.{Place}
@@ -52,28 +56,43 @@ at_one : (x m : Member) (k : ℕ) → k < 1 → slice_index_or (x ∷ []) k m �
 at_one x m zero small is = is
 at_one x m (suc k) small is = absurd (omega arith)
 
--- keys of other first bytes are not one
-abbrev first_byte : List ℕ → ℕ
-first_byte key = slice_index_or key 0 0
+-- keys that differ in a byte are not one
+abbrev byte_at : ℕ → List ℕ → ℕ
+byte_at at key = slice_index_or key at 0
 
-keys_differ : (key x y : List ℕ) (m n : ℕ) → key ≡ x → key ≡ y → first_byte x ≡ m → first_byte y ≡ n → m < n ⊎ n < m → ⊥
-keys_differ key x y m n a b first second (inl less) = omega (arith, ap first_byte (sym a ∙ b), first, second, less)
-keys_differ key x y m n a b first second (inr more) = omega (arith, ap first_byte (sym a ∙ b), first, second, more)
+differ_at : (at : ℕ) (key x y : List ℕ) (m n : ℕ) → key ≡ x → key ≡ y → byte_at at x ≡ m → byte_at at y ≡ n
+    → m < n ⊎ n < m → ⊥
+differ_at at key x y m n a b first second (inl less) =
+    omega (arith, ap (byte_at at) (sym a ∙ b), first, second, less)
+differ_at at key x y m n a b first second (inr more) =
+    omega (arith, ap (byte_at at) (sym a ∙ b), first, second, more)
 
-not_where : (key : List ℕ) → (key ≡ codes "value") ⊎ (key ≡ codes "number")
+keys_differ : (key x y : List ℕ) (m n : ℕ) → key ≡ x → key ≡ y → byte_at 0 x ≡ m → byte_at 0 y ≡ n
+    → m < n ⊎ n < m → ⊥
+keys_differ = differ_at 0
+
+not_where : (key : List ℕ) → (key ≡ codes "value") ⊎ ((key ≡ codes "number") ⊎ (key ≡ codes "ratio"))
     → (key ≡ codes "at") ⊎ ((key ≡ codes "line") ⊎ (key ≡ codes "column")) → ⊥
-not_where key (inl a) (inl b) = keys_differ key (codes "value") (codes "at") 118 97 a b refl refl (inr (omega arith))
+not_where key (inl a) (inl b) = keys_differ key (codes "value") (codes "at") 118 97 a b refl refl
+    (inr (omega arith))
 not_where key (inl a) (inr (inl b)) = keys_differ key (codes "value") (codes "line") 118 108 a b refl refl
     (inr (omega arith))
 not_where key (inl a) (inr (inr b)) = keys_differ key (codes "value") (codes "column") 118 99 a b refl refl
     (inr (omega arith))
-not_where key (inr a) (inl b) = keys_differ key (codes "number") (codes "at") 110 97 a b refl refl (inr (omega arith))
-not_where key (inr a) (inr (inl b)) = keys_differ key (codes "number") (codes "line") 110 108 a b refl refl
+not_where key (inr (inl a)) (inl b) = keys_differ key (codes "number") (codes "at") 110 97 a b refl refl
     (inr (omega arith))
-not_where key (inr a) (inr (inr b)) = keys_differ key (codes "number") (codes "column") 110 99 a b refl refl
+not_where key (inr (inl a)) (inr (inl b)) = keys_differ key (codes "number") (codes "line") 110 108 a b refl refl
+    (inr (omega arith))
+not_where key (inr (inl a)) (inr (inr b)) = keys_differ key (codes "number") (codes "column") 110 99 a b refl refl
+    (inr (omega arith))
+not_where key (inr (inr a)) (inl b) = keys_differ key (codes "ratio") (codes "at") 114 97 a b refl refl
+    (inr (omega arith))
+not_where key (inr (inr a)) (inr (inl b)) = keys_differ key (codes "ratio") (codes "line") 114 108 a b refl refl
+    (inr (omega arith))
+not_where key (inr (inr a)) (inr (inr b)) = keys_differ key (codes "ratio") (codes "column") 114 99 a b refl refl
     (inr (omega arith))
 
-not_unknown : (key : List ℕ) → (key ≡ codes "value") ⊎ (key ≡ codes "number")
+not_unknown : (key : List ℕ) → (key ≡ codes "value") ⊎ ((key ≡ codes "number") ⊎ (key ≡ codes "ratio"))
     → (key ≡ codes "page") ⊎ ((key ≡ codes "raw") ⊎ (key ≡ codes "mode")) → ⊥
 not_unknown key (inl a) (inl b) = keys_differ key (codes "value") (codes "page") 118 112 a b refl refl
     (inr (omega arith))
@@ -81,11 +100,17 @@ not_unknown key (inl a) (inr (inl b)) = keys_differ key (codes "value") (codes "
     (inr (omega arith))
 not_unknown key (inl a) (inr (inr b)) = keys_differ key (codes "value") (codes "mode") 118 109 a b refl refl
     (inr (omega arith))
-not_unknown key (inr a) (inl b) = keys_differ key (codes "number") (codes "page") 110 112 a b refl refl
+not_unknown key (inr (inl a)) (inl b) = keys_differ key (codes "number") (codes "page") 110 112 a b refl refl
     (inl (omega arith))
-not_unknown key (inr a) (inr (inl b)) = keys_differ key (codes "number") (codes "raw") 110 114 a b refl refl
+not_unknown key (inr (inl a)) (inr (inl b)) = keys_differ key (codes "number") (codes "raw") 110 114 a b refl refl
     (inl (omega arith))
-not_unknown key (inr a) (inr (inr b)) = keys_differ key (codes "number") (codes "mode") 110 109 a b refl refl
+not_unknown key (inr (inl a)) (inr (inr b)) = keys_differ key (codes "number") (codes "mode") 110 109 a b refl refl
+    (inr (omega arith))
+not_unknown key (inr (inr a)) (inl b) = keys_differ key (codes "ratio") (codes "page") 114 112 a b refl refl
+    (inr (omega arith))
+not_unknown key (inr (inr a)) (inr (inl b)) = differ_at 2 key (codes "ratio") (codes "raw") 116 119 a b refl refl
+    (inl (omega arith))
+not_unknown key (inr (inr a)) (inr (inr b)) = keys_differ key (codes "ratio") (codes "mode") 114 109 a b refl refl
     (inr (omega arith))
 
 key_unknown : (m : Member) → IsUnknown m
@@ -94,9 +119,14 @@ key_unknown m (inl is) = inl (ap (λ (x : Member). x.key) is)
 key_unknown m (inr (inl is)) = inr (inl (ap (λ (x : Member). x.key) is))
 key_unknown m (inr (inr is)) = inr (inr (ap (λ (x : Member). x.key) is))
 
-not_time : (key : List ℕ) → (key ≡ codes "value") ⊎ (key ≡ codes "number") → key ≡ codes "time" → ⊥
-not_time key (inl a) b = keys_differ key (codes "value") (codes "time") 118 116 a b refl refl (inr (omega arith))
-not_time key (inr a) b = keys_differ key (codes "number") (codes "time") 110 116 a b refl refl (inl (omega arith))
+not_time : (key : List ℕ) → (key ≡ codes "value") ⊎ ((key ≡ codes "number") ⊎ (key ≡ codes "ratio"))
+    → key ≡ codes "time" → ⊥
+not_time key (inl a) b = keys_differ key (codes "value") (codes "time") 118 116 a b refl refl
+    (inr (omega arith))
+not_time key (inr (inl a)) b = keys_differ key (codes "number") (codes "time") 110 116 a b refl refl
+    (inl (omega arith))
+not_time key (inr (inr a)) b = keys_differ key (codes "ratio") (codes "time") 114 116 a b refl refl
+    (inl (omega arith))
 
 module _ {timing : Timing} where
   -- ---- members
@@ -211,75 +241,54 @@ module _ {timing : Timing} where
       (inr (inr refl))
 
 module _ (places : ℕ) (acc : Access) (device : DeviceParts) (code : ℕ) where
-  -- data in the piece and in the whole, by what is known of VOUT_MODE and what that rests on
-  abbrev said_by : KnownMode → Basis → Kind → List ℕ → List Member
-  said_by m basis kind bytes = data_members places acc m basis device.vout_direct code kind bytes
+  -- data in the piece and in the whole, by what is known of VOUT_MODE and PAGE and what the mode rests on
+  abbrev said_by : KnownMode → Option ℕ → Basis → Kind → List ℕ → List Member
+  said_by m page basis kind bytes = data_members places acc (voltages_of device m page) basis code kind bytes
 
   module _ {timing : Timing} (one other : Basis) where
-    -- ---- the mode is the same, and may be assumed
+    -- ---- the format is the same, and its mode may be assumed
 
-    format_said : (format : Result VoutFormat ModeFault) (word : ℕ)
+    value_said : (ratio : Bool) (value : Result Fraction WordFault)
+        → SayNoMore timing (marked_members places ratio one value) (marked_members places ratio other value)
+    value_said ratio (Ok quantity) = both (same (voltage_members places ratio quantity)) (mark_said one other)
+    value_said ratio (Err fault) = same (raw_members (word_fault_name fault))
+
+    same_format_said : (format : Result VoltageFormat NoVoltage) (word : ℕ)
         → SayNoMore timing (format_members places one format word) (format_members places other format word)
-    format_said (Ok format) word = both (same (value_members places (vout_coding format) word)) (mark_said one other)
-    format_said (Err fault) word = same (raw_members (mode_fault_name fault))
+    same_format_said (Ok format) word = value_said format.is_ratio (value_in format.number word)
+    same_format_said (Err why) word = same (raw_members (no_voltage_name why))
 
-    word_said : (m : KnownMode) (signed : Bool) (word : ℕ)
-        → SayNoMore timing (vout_members places m one signed device.vout_direct word)
-        (vout_members places m other signed device.vout_direct word)
-    word_said (Known mode) signed word = format_said (format_of mode signed device.vout_direct) word
-    word_said Unknown signed word = same (raw_members (codes "unknown"))
-    word_said NoPage signed word = same (raw_members (codes "page"))
-
-    voltage_said : (m : KnownMode) (signed : Bool) (bytes : List ℕ)
-        → SayNoMore timing (of_word (vout_members places m one signed device.vout_direct) bytes)
-        (of_word (vout_members places m other signed device.vout_direct) bytes)
-    voltage_said m signed [] = same []
-    voltage_said m signed (a ∷ []) = same []
-    voltage_said m signed (low ∷ high ∷ []) = word_said m signed (low + 256 * high)
-    voltage_said m signed (a ∷ b ∷ c ∷ bytes) = same []
-
-    same_mode_said : (m : KnownMode) (kind : Kind) (bytes : List ℕ)
-        → SayNoMore timing (said_by m one kind bytes) (said_by m other kind bytes)
-    same_mode_said m Raw bytes = same []
-    same_mode_said m Linear11 bytes = same (said_by m one Linear11 bytes)
-    same_mode_said m (Linear11Fixed exponent) bytes = same (said_by m one (Linear11Fixed exponent) bytes)
-    same_mode_said m Vout bytes = voltage_said m false bytes
-    same_mode_said m VoutSigned bytes = voltage_said m true bytes
-    same_mode_said m (Direct c) bytes = same (said_by m one (Direct c) bytes)
-    same_mode_said m Status bytes = same (said_by m one Status bytes)
-
-    -- ---- it is not known in the piece
-
-    voltage_unknown : (m : KnownMode) (signed : Bool) (bytes : List ℕ)
-        → SayNoMore timing (of_word (vout_members places Unknown one signed device.vout_direct) bytes)
-        (of_word (vout_members places m other signed device.vout_direct) bytes)
-    voltage_unknown m signed [] = same []
-    voltage_unknown m signed (a ∷ []) = same []
-    voltage_unknown m signed (low ∷ high ∷ []) =
-        unknown (named (codes "raw") (string (codes "unknown")))
-        (vout_members places m other signed device.vout_direct (low + 256 * high)) (inr (inl refl))
-    voltage_unknown m signed (a ∷ b ∷ c ∷ bytes) = same []
-
-    data_unknown : (m : KnownMode) (kind : Kind) (bytes : List ℕ)
-        → SayNoMore timing (said_by Unknown one kind bytes) (said_by m other kind bytes)
-    data_unknown m Raw bytes = same []
-    data_unknown m Linear11 bytes = same (said_by Unknown one Linear11 bytes)
-    data_unknown m (Linear11Fixed exponent) bytes = same (said_by Unknown one (Linear11Fixed exponent) bytes)
-    data_unknown m Vout bytes = voltage_unknown m false bytes
-    data_unknown m VoutSigned bytes = voltage_unknown m true bytes
-    data_unknown m (Direct c) bytes = same (said_by Unknown one (Direct c) bytes)
-    data_unknown m Status bytes = same (said_by Unknown one Status bytes)
+    -- .. or it is not known in the piece
+    format_said : (piece whole : Result VoltageFormat NoVoltage) (word : ℕ)
+        → (piece ≡ Err Unknown) ⊎ (piece ≡ whole)
+        → SayNoMore timing (format_members places one piece word) (format_members places other whole word)
+    format_said piece whole word (inl is) =
+        let theirs : List Member = format_members places other whole word in
+        subst (λ (r : Result VoltageFormat NoVoltage). SayNoMore timing (format_members places one r word) theirs)
+        (sym is) (unknown (named (codes "raw") (string (codes "unknown"))) theirs (inr (inl refl)))
+    format_said piece whole word (inr is) =
+        subst (λ (r : Result VoltageFormat NoVoltage). SayNoMore timing (format_members places one piece word)
+        (format_members places other r word)) is (same_format_said piece word)
 
     -- ---- what is known in both agrees
 
-    pub data_said : (m : KnownMode) (w : Option ℕ) (kind : Kind) (bytes : List ℕ) → AgreesWith m w
-        → SayNoMore timing (said_by m one kind bytes) (said_by (known_as w) other kind bytes)
-    data_said (Known known) w kind bytes agrees =
-        subst (λ (o : Option ℕ). SayNoMore timing (said_by (Known known) one kind bytes)
-        (said_by (known_as o) other kind bytes))
-        (sym agrees) (same_mode_said (Known known) kind bytes)
-    data_said Unknown w kind bytes agrees = data_unknown (known_as w) kind bytes
-    data_said NoPage w kind bytes agrees =
-        subst (λ (o : Option ℕ). SayNoMore timing (said_by NoPage one kind bytes)
-        (said_by (known_as o) other kind bytes))
-        (sym agrees) (same_mode_said NoPage kind bytes)
+    module _ (m : KnownMode) (w p q : Option ℕ) (agrees : AgreesWith m w)
+        (known : (number : ℕ) → p ≡ Some number → q ≡ Some number) where
+      voltage_said : (sign : Sign) (bytes : List ℕ)
+          → SayNoMore timing (of_word (vout_members places (voltages_of device m p) one code sign) bytes)
+          (of_word (vout_members places (voltages_of device (known_as w) q) other code sign) bytes)
+      voltage_said sign [] = same []
+      voltage_said sign (a ∷ []) = same []
+      voltage_said sign (low ∷ high ∷ []) =
+          format_said (voltage_format (voltages_of device m p) code sign)
+          (voltage_format (voltages_of device (known_as w) q) code sign) (low + 256 * high)
+          (knows_no_other device m w p q code sign agrees known)
+      voltage_said sign (a ∷ b ∷ c ∷ bytes) = same []
+
+      pub data_said : (kind : Kind) (bytes : List ℕ)
+          → SayNoMore timing (said_by m p one kind bytes) (said_by (known_as w) q other kind bytes)
+      data_said Raw bytes = same []
+      data_said (Number format) bytes = same (of_word (number_members places format) bytes)
+      data_said Vout bytes = voltage_said Unsigned bytes
+      data_said VoutSigned bytes = voltage_said Signed bytes
+      data_said Status bytes = same (status_members acc code bytes)

@@ -17,6 +17,7 @@ use Rattle.pmb_unknown_start.specs.Certain.{AgreesWith, known_as}
 use Rattle.pmb_unknown_start.specs.declared.mode.KnownMode.{KnownMode}
 use Rattle.pmb_unknown_start.specs.declared.start.Start.{Start as LateStart}
 use Rattle.pmb_unknown_start.specs.Known.{mode, page}
+use Rattle.pmb_voltage.specs.Voltage.{voltages_of}
 use Rattle.pmb_json_text.specs.Json.{boolean, null, string}
 use Rattle.pmb_json_text.specs.Member.{array_of, digits, named}
 use Rattle.pmb_places.specs.declared.places.Place.{Place}
@@ -140,10 +141,13 @@ module _ (timing : Timing) (places : ℕ) (profile : List DeviceParts) (a b : La
       let w = agree.modes addr in
       let one = basis_at piece addr in
       let other = basis_at whole addr in
-      subst (λ (m : KnownMode). SayNoMore timing
-      (data_members places acc (mode a profile x addr) one device.vout_direct code entry.kind bytes)
-      (data_members places acc m other device.vout_direct code entry.kind bytes)) (sym w.2)
-      (data_said places acc device code one other (mode a profile x addr) w.0 entry.kind bytes w.1)
+      let m : KnownMode = mode a profile x addr in
+      let p : Option ℕ = page a profile x addr in
+      let q : Option ℕ = page b profile y addr in
+      subst (λ (n : KnownMode). SayNoMore timing
+      (data_members places acc (voltages_of device m p) one code entry.kind bytes)
+      (data_members places acc (voltages_of device n q) other code entry.kind bytes)) (sym w.2)
+      (data_said places acc device code one other m w.0 p q w.1 (agree.pages addr) entry.kind bytes)
 
   device_data_said : (acc : Access) (addr code : ℕ) (device : Option DeviceParts) (bytes : List ℕ)
       → SayNoMore timing (data_of piece acc addr code device bytes) (data_of whole acc addr code device bytes)

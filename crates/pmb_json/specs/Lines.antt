@@ -26,7 +26,8 @@ pub record AreJsonLines (text : List ℕ) : Type 0 where
 -- ---- a profile
 
 -- The coefficients of a device in DIRECT, of its output voltage and of its commands, have 16 bits and
--- make formats, as the types of a profile have it.
+-- make formats, and its commands' linear formats have exponents of five bits, as the types of a profile
+-- have it.
 pub record MakesFormats (device : DeviceParts) : Type 0 where
   pub vout : IfSome device.vout_direct AreOfWords
   pub commands : AllByRecursion (λ c. IsOfWords c.entry.kind) device.commands

@@ -38,9 +38,9 @@ TellsNoMore piece whole = IfSome piece (λ time. whole ≡ Some time)
 abbrev pub TellNoMore : ℕ → (ℕ → Option (List ℕ)) → (ℕ → Option (List ℕ)) → Type 0
 TellNoMore n times theirs = (at : ℕ) → TellsNoMore (times at) (theirs (n + at))
 
--- the exact value, and the nearest number
+-- the exact value, the nearest number, and the exact factor of VOUT_COMMAND
 abbrev pub IsNumber : Member → Type 0
-IsNumber m = (m.key ≡ codes "value") ⊎ (m.key ≡ codes "number")
+IsNumber m = (m.key ≡ codes "value") ⊎ ((m.key ≡ codes "number") ⊎ (m.key ≡ codes "ratio"))
 
 -- whether a piece tells the times of the whole, or may tell others
 pub data Timing : Type 0 where

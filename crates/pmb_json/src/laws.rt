@@ -58,7 +58,7 @@ pub fn json_is_the_objects()
 /// Where facts are told as objects, each line that is written for bytes is JSON, an object with distinct
 /// keys in printable ASCII, and all that is written is such lines, each with its LF: of a whole capture,
 /// and so far. So it is whatever else was chosen and whatever bytes were read, under a profile that is
-/// accepted and whose coefficients have 16 bits.
+/// accepted, whose coefficients have 16 bits and whose exponents have five.
 pub fn each_line_is_json()
     ensures whole { (choice : ChoiceData) (profile : List DeviceParts) (after : AfterBadToken) (bytes text : List ℕ) (tally : Tally)
         → choice.telling ≡ Objects → IsBus profile → AllMakeFormats profile → AreBytes bytes → WritesTold choice profile after bytes text tally → AreJsonLines text }
@@ -75,8 +75,8 @@ pub fn each_line_is_json()
     times_are_short();
 }
 
-/// What a piece of a capture says of values the whole says: each `value` and each `number` of an object
-/// that says no more than another is one of the other's.
+/// What a piece of a capture says of values the whole says: each `value`, each `number` and each `ratio`
+/// of an object that says no more than another is one of the other's.
 pub fn numbers_of_pieces_are_of_the_whole()
     ensures { (timing : Timing) (piece whole : Object) (m : Member) → SaysNoMore timing piece whole → Contains piece.members m → IsNumber m → Contains whole.members m }
 {}

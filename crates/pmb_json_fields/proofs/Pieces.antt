@@ -2,8 +2,9 @@
 -- (`Appends`). For all functions of `src/bits.rt`, `data.rt`, `number.rt` and `voltage.rt`. What
 -- two calls append is what both lists of members spell, and their bounds add up; a member whose
 -- value is an array is written in three pieces.
-use Rattle.std.proofs.Common.{◌≡◌, ℕ, ◌+◌, ◌≤◌, codes, map, List, [], ◌∷◌, ◌++◌, true, ◌&&◌, not, ◌==◌, IsTrue, nat_le}
-use Rattle.std.proofs.Common.{ltb, false, length, refl, sym, ap, ◌∙◌, subst, append_assoc, length-append, arith}
+use Rattle.std.proofs.Common.{◌≡◌, ℕ, ◌+◌, ◌*◌, ◌≤◌, codes, get_or, map, List, [], ◌∷◌, ◌++◌, true, ◌&&◌, not, ◌==◌}
+use Rattle.std.proofs.Common.{IsTrue, nat_le, ltb, false, length, refl, sym, ap, ◌∙◌, subst, append_assoc}
+use Rattle.std.proofs.Common.{length-append, arith}
 use Rattle.std.specs.List.{AllByRecursion}
 use Rattle.std.proofs.lemmas.Bool.{and_parts, leb-true, ltb-false, ltb-true}
 use Rattle.std.proofs.lemmas.List.{append-nil, map-append}
@@ -73,6 +74,14 @@ too_long members [] many = absurd (omega (arith, ltb-false 0 3 many))
 too_long members (a ∷ []) many = absurd (omega (arith, ltb-false (length (a ∷ [])) 3 many))
 too_long members (a ∷ b ∷ []) many = absurd (omega (arith, ltb-false (length (a ∷ b ∷ [])) 3 many))
 too_long members (a ∷ b ∷ c ∷ bytes) many = refl
+
+-- two bytes are one
+pub two_bytes : (members : ℕ → List Member) (word : ℕ) (bytes : List ℕ) → length bytes ≡ 2
+    → word ≡ get_or bytes 0 0 + 256 * get_or bytes 1 0 → members word ≡ of_word members bytes
+two_bytes members word [] two is = absurd (omega (arith, two))
+two_bytes members word (a ∷ []) two is = absurd (omega (arith, two))
+two_bytes members word (low ∷ high ∷ []) two is = ap members is
+two_bytes members word (a ∷ b ∷ c ∷ bytes) two is = absurd (omega (arith, two))
 
 -- ---- texts of an array
 

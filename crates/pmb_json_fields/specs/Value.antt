@@ -1,23 +1,23 @@
 -- What an object says of a command's data: a number, why there is none, or the bits of a status
 -- register.
-use Rattle.std.specs.Prelude.{ℕ, zero, suc, ◌+◌, ◌*◌, Bool, true, false, if◌then◌else◌, Option, Result, Ok, Err, List}
+use Rattle.std.specs.Prelude.{ℕ, zero, suc, ◌+◌, ◌*◌, Bool, true, false, if◌then◌else◌, Result, Ok, Err, List}
 use Rattle.std.specs.Prelude.{[], ◌∷◌, ◌++◌, codes, map}
 use Rattle.pmb_quantity.specs.QuantityText.{spelling}
 use Rattle.pmb_decimal.specs.Decimal.{rounded_text}
-use Rattle.pmb_coefficients.specs.Coefficients.{Coefficients}
-use Rattle.pmb_format.specs.Coding.{Coding, value_of}
-use Rattle.pmb_format.specs.Direct.{direct}
-use Rattle.pmb_linear.specs.Linear.{linear11, linear11_fixed}
-use Rattle.pmb_value.specs.Vout.{format_of, vout_coding}
-use Rattle.pmb_value.specs.declared.vout.ModeFault.{ModeFault}
-use Rattle.pmb_value.specs.declared.vout.ModeFault.TheVariants.{Relative, Vid, Ieee, NoCoefficients}
-use Rattle.pmb_value.specs.declared.vout.VoutFormat.{VoutFormat}
+use Rattle.pmb_quantity.specs.Fraction.{Fraction}
+use Rattle.pmb_value.specs.WordFault.{value_in}
+use Rattle.pmb_value.specs.declared.number_format.NumberFormat.{NumberFormat}
+use Rattle.pmb_value.specs.declared.number_format.WordFault.{WordFault}
+use Rattle.pmb_value.specs.declared.number_format.WordFault.TheVariants.{NotANumber, NoCode, Off}
+use Rattle.pmb_value.specs.declared.sign.Sign.{Sign}
+use Rattle.pmb_value.specs.declared.sign.Sign.TheVariants.{Unsigned, Signed}
+use Rattle.pmb_voltage.specs.Voltage.{VoltagesData, voltage_format}
+use Rattle.pmb_voltage.specs.declared.voltage.NoVoltage.{NoVoltage}
+use Rattle.pmb_voltage.specs.declared.voltage.NoVoltage.TheVariants.{Unknown, Page, Vid, Relative, Coefficients}
+use Rattle.pmb_voltage.specs.declared.voltage.VoltageFormat.{VoltageFormat}
 use Rattle.pmb_command.specs.declared.entry.Kind.{Kind}
-use Rattle.pmb_command.specs.declared.entry.Kind.TheVariants.{Raw, Linear11, Linear11Fixed, Vout, VoutSigned, Direct}
-use Rattle.pmb_command.specs.declared.entry.Kind.TheVariants.{Status}
+use Rattle.pmb_command.specs.declared.entry.Kind.TheVariants.{Raw, Number, Vout, VoutSigned, Status}
 use Rattle.pmb_command.specs.StatusBits.{bit_text}
-use Rattle.pmb_unknown_start.specs.declared.mode.KnownMode.{KnownMode}
-use Rattle.pmb_unknown_start.specs.declared.mode.KnownMode.TheVariants.{Known, Unknown, NoPage}
 use Rattle.pmb_note.specs.Note.{is_set, named_bit}
 use Rattle.pmb_json_text.specs.Json.{number, string}
 use Rattle.pmb_json_text.specs.Member.{Member, named, array_of}
@@ -35,21 +35,37 @@ of_word members (a ∷ []) = []
 of_word members (low ∷ high ∷ []) = members (low + 256 * high)
 of_word members (a ∷ b ∷ c ∷ bytes) = []
 
--- the exact value of a word, and the nearest number with at most that many digits after the point
-abbrev pub value_members : ℕ → Coding → ℕ → List Member
-value_members digits coding word =
-    named (codes "value") (string (spelling (value_of coding word)))
-    ∷ named (codes "number") (number (rounded_text digits (value_of coding word))) ∷ []
-
 -- why a word has no value
 abbrev pub raw_members : List ℕ → List Member
 raw_members why = named (codes "raw") (string why) ∷ []
 
-abbrev pub mode_fault_name : ModeFault → List ℕ
-mode_fault_name Relative = codes "relative"
-mode_fault_name Vid = codes "vid"
-mode_fault_name Ieee = codes "ieee"
-mode_fault_name NoCoefficients = codes "coefficients"
+abbrev pub word_fault_name : WordFault → List ℕ
+word_fault_name NotANumber = codes "nan"
+word_fault_name NoCode = codes "code"
+word_fault_name Off = codes "off"
+
+-- an exact value, and the nearest number with at most that many digits after the point
+abbrev pub quantity_members : ℕ → Fraction → List Member
+quantity_members digits quantity =
+    named (codes "value") (string (spelling quantity))
+    ∷ named (codes "number") (number (rounded_text digits quantity)) ∷ []
+
+abbrev pub value_members : ℕ → Result Fraction WordFault → List Member
+value_members digits (Ok quantity) = quantity_members digits quantity
+value_members digits (Err fault) = raw_members (word_fault_name fault)
+
+-- a word in a format
+abbrev pub number_members : ℕ → NumberFormat → ℕ → List Member
+number_members digits format word = value_members digits (value_in format word)
+
+-- ---- output voltages
+
+abbrev pub no_voltage_name : NoVoltage → List ℕ
+no_voltage_name Unknown = codes "unknown"
+no_voltage_name Page = codes "page"
+no_voltage_name Vid = codes "vid"
+no_voltage_name Relative = codes "relative"
+no_voltage_name Coefficients = codes "coefficients"
 
 -- what a VOUT_MODE rests on, by whether it is assumed
 abbrev pub basis_of : Bool → Basis
@@ -61,16 +77,23 @@ abbrev pub basis_members : Basis → List Member
 basis_members Told = []
 basis_members Assumed = named (codes "mode") (string (codes "assumed")) ∷ []
 
-abbrev pub format_members : ℕ → Basis → Result VoutFormat ModeFault → ℕ → List Member
-format_members digits basis (Ok format) word = value_members digits (vout_coding format) word ++ basis_members basis
-format_members digits basis (Err fault) word = raw_members (mode_fault_name fault)
+-- a factor of VOUT_COMMAND is no voltage, so it is told by another name
+abbrev pub voltage_members : ℕ → Bool → Fraction → List Member
+voltage_members digits true quantity = named (codes "ratio") (string (spelling quantity)) ∷ []
+voltage_members digits false quantity = quantity_members digits quantity
 
--- an output voltage by VOUT_MODE, where that is known and the pages share one
-abbrev pub vout_members : ℕ → KnownMode → Basis → Bool → Option Coefficients → ℕ → List Member
-vout_members digits (Known mode) basis signed coefficients word =
-    format_members digits basis (format_of mode signed coefficients) word
-vout_members digits Unknown basis signed coefficients word = raw_members (codes "unknown")
-vout_members digits NoPage basis signed coefficients word = raw_members (codes "page")
+abbrev pub marked_members : ℕ → Bool → Basis → Result Fraction WordFault → List Member
+marked_members digits ratio basis (Ok quantity) = voltage_members digits ratio quantity ++ basis_members basis
+marked_members digits ratio basis (Err fault) = raw_members (word_fault_name fault)
+
+abbrev pub format_members : ℕ → Basis → Result VoltageFormat NoVoltage → ℕ → List Member
+format_members digits basis (Ok format) word =
+    marked_members digits format.is_ratio basis (value_in format.number word)
+format_members digits basis (Err why) word = raw_members (no_voltage_name why)
+
+-- a word of the command with a code, whose words are signed or not
+abbrev pub vout_members : ℕ → VoltagesData → Basis → ℕ → Sign → ℕ → List Member
+vout_members digits voltages basis code sign word = format_members digits basis (voltage_format voltages code sign) word
 
 -- ---- status bits
 
@@ -100,15 +123,11 @@ status_members access code (a ∷ b ∷ c ∷ bytes) = []
 
 -- ---- by the command's kind
 
-abbrev pub data_members : ℕ → Access → KnownMode → Basis → Option Coefficients → ℕ → Kind → List ℕ → List Member
-data_members digits access mode basis coefficients code Raw bytes = []
-data_members digits access mode basis coefficients code Linear11 bytes = of_word (value_members digits linear11) bytes
-data_members digits access mode basis coefficients code (Linear11Fixed exponent) bytes =
-    of_word (value_members digits (linear11_fixed exponent)) bytes
-data_members digits access mode basis coefficients code Vout bytes =
-    of_word (vout_members digits mode basis false coefficients) bytes
-data_members digits access mode basis coefficients code VoutSigned bytes =
-    of_word (vout_members digits mode basis true coefficients) bytes
-data_members digits access mode basis coefficients code (Direct d) bytes =
-    of_word (value_members digits (direct d)) bytes
-data_members digits access mode basis coefficients code Status bytes = status_members access code bytes
+abbrev pub data_members : ℕ → Access → VoltagesData → Basis → ℕ → Kind → List ℕ → List Member
+data_members digits access voltages basis code Raw bytes = []
+data_members digits access voltages basis code (Number format) bytes = of_word (number_members digits format) bytes
+data_members digits access voltages basis code Vout bytes =
+    of_word (vout_members digits voltages basis code Unsigned) bytes
+data_members digits access voltages basis code VoutSigned bytes =
+    of_word (vout_members digits voltages basis code Signed) bytes
+data_members digits access voltages basis code Status bytes = status_members access code bytes

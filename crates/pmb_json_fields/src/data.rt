@@ -5,57 +5,46 @@
 ghost use Rattle.std.specs.Prelude.{◌≡◌, ◌+◌, ◌≤◌, ◌++◌, length};
 ghost use Rattle.pmb_json_text.specs.declared.item_order.ItemOrder.TheVariants.{Later};
 ghost use Rattle.pmb_json_text.specs.Member.{AreWritable, members_text};
+ghost use Rattle.pmb_voltage.specs.Voltage.{voltages_data};
 ghost use Rattle.pmb_json_fields.specs.Value.{data_members};
 ghost use Rattle.pmb_json_fields.specs.machine.Written.{Appends};
 
 use crate::access::Access;
 use crate::basis::Basis;
 use crate::bits::append_status;
-use crate::number::append_quantity;
+use crate::number::append_number;
 use crate::voltage::append_voltage;
 use arrayvec::ArrayVec;
 use pmb_command::Kind;
 use pmb_decimal::Digits;
-use pmb_unknown_start::KnownMode;
-use pmb_value::{Direct, Linear11, Sign};
+use pmb_value::Sign;
+use pmb_voltage::Voltages;
 
 /// The most bytes of the members that [`data_members`] appends: those of 16 status bits.
 pub const DATA_MEMBERS: usize = 1702;
 
 /// Appends what is said of a command's data to an object that has members already.
 ///
-/// `digits` is how many digits a number has after the point at most. `mode` is the VOUT_MODE by which
-/// an output voltage is read, as far as it is known, `basis` says whether that is assumed, and
-/// `coefficients` are those of the device for output voltages in DIRECT. `code` and `kind` are the command's, and `bytes` what is read or
-/// written: without the count of a block, and without a packet error code. Nothing is appended where
-/// the kind says nothing of that many bytes.
+/// `digits` is how many digits a number has after the point at most. `voltages` is what the format of an
+/// output voltage depends on, and `basis` says whether its VOUT_MODE is assumed. `code` and `kind` are the
+/// command's, and `bytes` what is read or written: without the count of a block, and without a packet
+/// error code. Nothing is appended where the kind says nothing of that many bytes.
 pub fn data_members<const N: usize>(
     out: &mut ArrayVec<u8, N>,
     digits: Digits,
     access: Access,
-    mode: KnownMode,
+    voltages: &Voltages<'_>,
     basis: Basis,
-    coefficients: Option<Direct>,
     code: u8,
     kind: Kind,
     bytes: &[u8],
 )
     requires room { length out.old.items + DATA_MEMBERS ≤ N }
-    ensures members { out.new.items ≡ out.old.items ++ members_text Later (data_members digits access mode basis coefficients code kind bytes.now) }
+    ensures members { out.new.items ≡ out.old.items ++ members_text Later (data_members digits access (voltages_data voltages.now) basis code kind bytes.now) }
     ensures short { length out.new.items ≤ length out.old.items + DATA_MEMBERS }
-    ensures writable { AreWritable (data_members digits access mode basis coefficients code kind bytes.now) }
+    ensures writable { AreWritable (data_members digits access (voltages_data voltages.now) basis code kind bytes.now) }
 {
-    append_data(
-        out,
-        digits,
-        access,
-        mode,
-        basis,
-        coefficients,
-        code,
-        kind,
-        bytes,
-    );
+    append_data(out, digits, access, voltages, basis, code, kind, bytes);
 }
 
 /// The same.
@@ -63,39 +52,20 @@ fn append_data<const N: usize>(
     out: &mut ArrayVec<u8, N>,
     digits: Digits,
     access: Access,
-    mode: KnownMode,
+    voltages: &Voltages<'_>,
     basis: Basis,
-    coefficients: Option<Direct>,
     code: u8,
     kind: Kind,
     bytes: &[u8],
 )
     requires { length out.old.items + 1702 ≤ N }
-    ensures { Appends (data_members digits access mode basis coefficients code kind bytes.now) 1702 out.old.items out.new.items }
+    ensures { Appends (data_members digits access (voltages_data voltages.now) basis code kind bytes.now) 1702 out.old.items out.new.items }
 {
     match kind {
         Kind::Raw => {}
-        // A fixed exponent binds the writer alone: every word has its value.
-        Kind::Linear11 | Kind::Linear11Fixed(_) => append_quantity(out, digits, &Linear11, bytes),
-        Kind::Vout => append_voltage(
-            out,
-            digits,
-            mode,
-            basis,
-            Sign::Unsigned,
-            coefficients,
-            bytes,
-        ),
-        Kind::VoutSigned => append_voltage(
-            out,
-            digits,
-            mode,
-            basis,
-            Sign::Signed,
-            coefficients,
-            bytes,
-        ),
-        Kind::Direct(format) => append_quantity(out, digits, &format, bytes),
+        Kind::Number(format) => append_number(out, digits, format, bytes),
+        Kind::Vout => append_voltage(out, digits, voltages, basis, code, Sign::Unsigned, bytes),
+        Kind::VoutSigned => append_voltage(out, digits, voltages, basis, code, Sign::Signed, bytes),
         Kind::Status => append_status(out, access, code, bytes),
     }
 }

@@ -7,44 +7,79 @@ ghost use Rattle.pmb_quantity.specs.QuantityText.{spelling};
 ghost use Rattle.pmb_decimal.specs.Decimal.{rounded_text};
 ghost use Rattle.pmb_json_text.specs.Json.{IsNumber, number, string};
 ghost use Rattle.pmb_json_text.specs.Member.{named};
-ghost use Rattle.pmb_json_fields.specs.Value.{of_word, value_members};
+ghost use Rattle.pmb_json_fields.specs.Value.{number_members, of_word, quantity_members, voltage_members};
 ghost use Rattle.pmb_json_fields.specs.machine.Written.{Appends};
 
-use crate::raw::append_text;
+use crate::raw::{append_raw, append_text, word_fault_name};
 use arrayvec::ArrayVec;
 use pmb_decimal::{Digits, append_decimal};
 use pmb_json_text::{ItemOrder, number_text_member};
-use pmb_value::{Format, Quantity};
+use pmb_value::{NumberFormat, Quantity};
 
 /// Appends what two bytes say in a format; nothing for another number of bytes.
-pub(crate) fn append_quantity<F: Format, const N: usize>(
+pub(crate) fn append_number<const N: usize>(
     out: &mut ArrayVec<u8, N>,
     digits: Digits,
-    format: &F,
+    format: NumberFormat,
     bytes: &[u8],
 )
     requires { length out.old.items + 345 ≤ N }
-    ensures { Appends (of_word (value_members digits (F.coding format.now)) bytes.now) 345 out.old.items out.new.items }
+    ensures { Appends (of_word (number_members digits format) bytes.now) 345 out.old.items out.new.items }
 {
     match bytes {
-        [low, high] => append_value(out, digits, format, u16::from_le_bytes([*low, *high])),
+        [low, high] => append_word(out, digits, format, u16::from_le_bytes([*low, *high])),
         _ => {}
     }
 }
 
-/// Appends the value of a word in a format, and the nearest number.
-pub(crate) fn append_value<F: Format, const N: usize>(
+/// Appends the value of a word in a format, or why it has none.
+fn append_word<const N: usize>(
     out: &mut ArrayVec<u8, N>,
     digits: Digits,
-    format: &F,
+    format: NumberFormat,
     word: u16,
 )
     requires { length out.old.items + 345 ≤ N }
-    ensures { Appends (value_members digits (F.coding format.now) word) 345 out.old.items out.new.items }
+    ensures { Appends (number_members digits format word) 345 out.old.items out.new.items }
 {
-    let quantity = format.decode(word);
-    append_exact(out, &quantity);
-    append_nearest(out, digits, &quantity);
+    match format.value(word) {
+        Ok(quantity) => append_quantity(out, digits, &quantity),
+        Err(fault) => append_raw(out, word_fault_name(fault)),
+    }
+}
+
+/// Appends an exact value, and the nearest number.
+fn append_quantity<const N: usize>(out: &mut ArrayVec<u8, N>, digits: Digits, quantity: &Quantity)
+    requires { length out.old.items + 345 ≤ N }
+    ensures { Appends (quantity_members digits quantity.now) 345 out.old.items out.new.items }
+{
+    append_exact(out, quantity);
+    append_nearest(out, digits, quantity);
+}
+
+/// Appends an output voltage, or a factor of one.
+pub(crate) fn append_voltage_value<const N: usize>(
+    out: &mut ArrayVec<u8, N>,
+    digits: Digits,
+    is_ratio: bool,
+    quantity: &Quantity,
+)
+    requires { length out.old.items + 345 ≤ N }
+    ensures { Appends (voltage_members digits is_ratio quantity.now) 345 out.old.items out.new.items }
+{
+    if is_ratio {
+        append_ratio(out, quantity);
+    } else {
+        append_quantity(out, digits, quantity);
+    }
+}
+
+/// Appends a factor.
+fn append_ratio<const N: usize>(out: &mut ArrayVec<u8, N>, quantity: &Quantity)
+    requires { length out.old.items + 292 ≤ N }
+    ensures { Appends (named (codes "ratio") (string (spelling quantity.now)) ∷ []) 292 out.old.items out.new.items }
+{
+    append_text(out, "ratio", quantity.text().as_str().as_bytes());
 }
 
 /// Appends the exact value.

@@ -5,12 +5,13 @@
 ghost use Rattle.std.specs.Prelude.{◌≡◌, ◌+◌, ◌*◌, ◌≤◌, ◌∷◌, [], IsTrue, length};
 ghost use Rattle.pmb_json_text.specs.Json.{string};
 ghost use Rattle.pmb_json_text.specs.Member.{is_key, named};
-ghost use Rattle.pmb_json_fields.specs.Value.{mode_fault_name, raw_members};
+ghost use Rattle.pmb_json_fields.specs.Value.{no_voltage_name, raw_members, word_fault_name};
 ghost use Rattle.pmb_json_fields.specs.machine.Written.{Appends};
 
 use arrayvec::ArrayVec;
 use pmb_json_text::{ItemOrder, TEXT_MEMBER, text_member};
-use pmb_value::ModeFault;
+use pmb_value::WordFault;
+use pmb_voltage::NoVoltage;
 
 /// Appends a member whose value is a text.
 #[inline(always)]
@@ -31,15 +32,28 @@ pub(crate) fn append_raw<const N: usize>(out: &mut ArrayVec<u8, N>, why: &str)
     append_text(out, "raw", why.as_bytes());
 }
 
-/// Why a VOUT_MODE names no format.
-pub(crate) fn mode_fault_name(fault: ModeFault) -> &'static str
-    ensures name { result.now ≡ mode_fault_name fault }
+/// Why a word has no value in its format.
+pub(crate) fn word_fault_name(fault: WordFault) -> &'static str
+    ensures name { result.now ≡ word_fault_name fault }
     ensures short { length result.now ≤ 12 }
 {
     match fault {
-        ModeFault::Relative => "relative",
-        ModeFault::Vid => "vid",
-        ModeFault::Ieee => "ieee",
-        ModeFault::NoCoefficients => "coefficients",
+        WordFault::NotANumber => "nan",
+        WordFault::NoCode => "code",
+        WordFault::Off => "off",
+    }
+}
+
+/// Why an output voltage has no format.
+pub(crate) fn no_voltage_name(why: NoVoltage) -> &'static str
+    ensures name { result.now ≡ no_voltage_name why }
+    ensures short { length result.now ≤ 12 }
+{
+    match why {
+        NoVoltage::Unknown => "unknown",
+        NoVoltage::Page => "page",
+        NoVoltage::Vid => "vid",
+        NoVoltage::Relative => "relative",
+        NoVoltage::Coefficients => "coefficients",
     }
 }

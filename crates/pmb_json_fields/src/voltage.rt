@@ -3,39 +3,40 @@
 //! Its rows: `tests_json`, `src/fields/voltages.rt` and `contexts.rt`.
 
 ghost use Rattle.std.specs.Prelude.{◌≡◌, ◌+◌, ◌≤◌, length};
-ghost use Rattle.pmb_value.specs.Vout.{format_of};
-ghost use Rattle.pmb_json_fields.specs.Value.{basis_members, format_members, of_word, vout_members};
-ghost use Rattle.pmb_json_fields.specs.machine.Written.{Appends, is_signed};
+ghost use Rattle.pmb_value.specs.WordFault.{value_in};
+ghost use Rattle.pmb_voltage.specs.Voltage.{voltages_data};
+ghost use Rattle.pmb_json_fields.specs.Value.{basis_members, marked_members, of_word, vout_members};
+ghost use Rattle.pmb_json_fields.specs.machine.Written.{Appends};
 
 use crate::basis::Basis;
-use crate::number::append_value;
-use crate::raw::{append_raw, append_text, mode_fault_name};
+use crate::number::append_voltage_value;
+use crate::raw::{append_raw, append_text, no_voltage_name, word_fault_name};
 use arrayvec::ArrayVec;
 use pmb_decimal::Digits;
-use pmb_unknown_start::KnownMode;
-use pmb_value::{Direct, Sign, vout_format};
+use pmb_value::Sign;
+use pmb_voltage::{VoltageFormat, Voltages};
 
 /// Appends what two bytes of an output voltage say; nothing for another number of bytes.
 pub(crate) fn append_voltage<const N: usize>(
     out: &mut ArrayVec<u8, N>,
     digits: Digits,
-    mode: KnownMode,
+    voltages: &Voltages<'_>,
     basis: Basis,
+    code: u8,
     sign: Sign,
-    coefficients: Option<Direct>,
     bytes: &[u8],
 )
     requires { length out.old.items + 410 ≤ N }
-    ensures { Appends (of_word (vout_members digits mode basis (is_signed sign) coefficients) bytes.now) 410 out.old.items out.new.items }
+    ensures { Appends (of_word (vout_members digits (voltages_data voltages.now) basis code sign) bytes.now) 410 out.old.items out.new.items }
 {
     match bytes {
         [low, high] => append_word(
             out,
             digits,
-            mode,
+            voltages,
             basis,
+            code,
             sign,
-            coefficients,
             u16::from_le_bytes([*low, *high]),
         ),
         _ => {}
@@ -46,49 +47,38 @@ pub(crate) fn append_voltage<const N: usize>(
 fn append_word<const N: usize>(
     out: &mut ArrayVec<u8, N>,
     digits: Digits,
-    mode: KnownMode,
+    voltages: &Voltages<'_>,
     basis: Basis,
+    code: u8,
     sign: Sign,
-    coefficients: Option<Direct>,
     word: u16,
 )
     requires { length out.old.items + 410 ≤ N }
-    ensures { Appends (vout_members digits mode basis (is_signed sign) coefficients word) 410 out.old.items out.new.items }
+    ensures { Appends (vout_members digits (voltages_data voltages.now) basis code sign word) 410 out.old.items out.new.items }
 {
-    match mode {
-        KnownMode::Known(mode) => append_by_mode(
-            out,
-            digits,
-            mode,
-            basis,
-            sign,
-            coefficients,
-            word,
-        ),
-        KnownMode::Unknown => append_raw(out, "unknown"),
-        KnownMode::NoPage => append_raw(out, "page"),
+    match voltages.format(code, sign) {
+        Ok(format) => append_in_format(out, digits, basis, format, word),
+        Err(why) => append_raw(out, no_voltage_name(why)),
     }
 }
 
-/// Appends what a word of an output voltage says under a VOUT_MODE.
-fn append_by_mode<const N: usize>(
+/// Appends what a word of an output voltage says in its format.
+fn append_in_format<const N: usize>(
     out: &mut ArrayVec<u8, N>,
     digits: Digits,
-    mode: u8,
     basis: Basis,
-    sign: Sign,
-    coefficients: Option<Direct>,
+    format: VoltageFormat,
     word: u16,
 )
     requires { length out.old.items + 410 ≤ N }
-    ensures { Appends (format_members digits basis (format_of mode (is_signed sign) coefficients) word) 410 out.old.items out.new.items }
+    ensures { Appends (marked_members digits format.is_ratio basis (value_in format.number word)) 410 out.old.items out.new.items }
 {
-    match vout_format(mode, sign == Sign::Signed, coefficients) {
-        Ok(format) => {
-            append_value(out, digits, &format, word);
+    match format.number.value(word) {
+        Ok(quantity) => {
+            append_voltage_value(out, digits, format.is_ratio, &quantity);
             append_basis(out, basis);
         }
-        Err(fault) => append_raw(out, mode_fault_name(fault)),
+        Err(fault) => append_raw(out, word_fault_name(fault)),
     }
 }
 

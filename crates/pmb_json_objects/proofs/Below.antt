@@ -3,12 +3,11 @@
 -- Each. What lower crates say is taken from their laws (`Below`).
 use Rattle.std.proofs.Common.{ℕ, ◌++◌, Option, Some, None, List, [], ◌∷◌, codes, refl, sym, subst}
 use Rattle.std.specs.Prelude.{IsTrue}
-use Rattle.pmb_coefficients.specs.Coefficients.{Coefficients}
 use Rattle.pmb_command.specs.declared.entry.Kind.{Kind}
 use Rattle.pmb_command.specs.Entry.{EntryParts}
 use Rattle.pmb_command.specs.Parts.{DeviceParts, device_with}
 use Rattle.pmb_json_fields.specs.Value.{data_members}
-use Rattle.pmb_unknown_start.specs.declared.mode.KnownMode.{KnownMode}
+use Rattle.pmb_voltage.specs.Voltage.{VoltagesData, voltages_of}
 use Rattle.pmb_json_fields.specs.declared.access.Access.{Access}
 use Rattle.pmb_json_fields.specs.declared.basis.Basis.{Basis}
 use Rattle.pmb_json_fields.specs.Laws.{data_keys, keys}
@@ -16,7 +15,7 @@ use Rattle.pmb_json_text.specs.Json.{AreDistinct}
 use Rattle.pmb_json_text.specs.Member.{IsPart, Member, are_distinct}
 use Rattle.pmb_json_objects.specs.Laws.{IsJsonObject, object_keys}
 use Rattle.pmb_json_objects.specs.Packets.{data_of, data_of_entry, said_of}
-use Rattle.pmb_json_objects.specs.Seen.{SeenData, basis_at, entry_of, mode_at}
+use Rattle.pmb_json_objects.specs.Seen.{SeenData, basis_at, entry_of, mode_at, page_at}
 use Rattle.pmb_json_objects.proofs.DataMembers.{DecimalsAreNumbers}
 use Rattle.pmb_json_objects.proofs.Fine.{AreFine, DigitsAreNumbers, are_flat, are_writable, fine_of_both}
 use Rattle.pmb_json_objects.proofs.Keys.{HaveKeys, followed, same_keys, tested}
@@ -28,32 +27,34 @@ use Rattle.pmb_json_objects.proofs.Shared.{command_keys, head_keys, part_keys}
 abbrev pub FewerAreDistinct : Type 0
 FewerAreDistinct = (some all : List (List ℕ)) → IsPart some all → AreDistinct all → AreDistinct some
 
-abbrev pub SixKeys : Type 0
-SixKeys = (digits : ℕ) (a : Access) (mode : KnownMode) (basis : Basis) (coefficients : Option Coefficients) (code : ℕ)
-    (kind : Kind) (bytes : List ℕ)
-    → IsPart (keys (data_members digits a mode basis coefficients code kind bytes)) data_keys
+abbrev pub SevenKeys : Type 0
+SevenKeys = (digits : ℕ) (a : Access) (voltages : VoltagesData) (basis : Basis) (code : ℕ) (kind : Kind)
+    (bytes : List ℕ)
+    → IsPart (keys (data_members digits a voltages basis code kind bytes)) data_keys
 
 abbrev pub DataKeysAreSome : Type 0
 DataKeysAreSome = (seen : SeenData) (a : Access) (addr code : ℕ) (bytes : List ℕ)
     → HaveKeys (said_of seen a addr code bytes) data_keys
 
-said_of_entry : SixKeys → (seen : SeenData) (a : Access) (addr code : ℕ) (device : DeviceParts)
+said_of_entry : SevenKeys → (seen : SeenData) (a : Access) (addr code : ℕ) (device : DeviceParts)
     (entry : Option EntryParts) (bytes : List ℕ)
     → HaveKeys (data_of_entry seen a addr code device entry bytes) data_keys
-said_of_entry six seen a addr code device None bytes = tested [] data_keys refl
-said_of_entry six seen a addr code device (Some entry) bytes =
+said_of_entry seven seen a addr code device None bytes = tested [] data_keys refl
+said_of_entry seven seen a addr code device (Some entry) bytes =
     record {
-      part = six seen.digits a (mode_at seen addr) (basis_at seen addr) device.vout_direct code entry.kind bytes;
+      part =
+          seven seen.digits a (voltages_of device (mode_at seen addr) (page_at seen addr)) (basis_at seen addr) code
+          entry.kind bytes;
     }
 
-said_of_device : SixKeys → (seen : SeenData) (a : Access) (addr code : ℕ) (device : Option DeviceParts)
+said_of_device : SevenKeys → (seen : SeenData) (a : Access) (addr code : ℕ) (device : Option DeviceParts)
     (bytes : List ℕ) → HaveKeys (data_of seen a addr code device bytes) data_keys
-said_of_device six seen a addr code None bytes = tested [] data_keys refl
-said_of_device six seen a addr code (Some device) bytes = said_of_entry six seen a addr code device
+said_of_device seven seen a addr code None bytes = tested [] data_keys refl
+said_of_device seven seen a addr code (Some device) bytes = said_of_entry seven seen a addr code device
     (entry_of (Some device) code) bytes
 
-keys_of_said : SixKeys → DataKeysAreSome
-keys_of_said six seen a addr code bytes = said_of_device six seen a addr code (device_with addr seen.profile) bytes
+keys_of_said : SevenKeys → DataKeysAreSome
+keys_of_said seven seen a addr code bytes = said_of_device seven seen a addr code (device_with addr seen.profile) bytes
 
 pub record Below : Type 0 where
   -- what laws of `pmb_json_text`, `pmb_decimal`, `pmb_quantity` and `pmb_json_fields` say
@@ -69,13 +70,13 @@ abbrev pub TestedAreDistinct : Type 0
 TestedAreDistinct = (all : List (List ℕ)) → IsTrue (are_distinct all) → AreDistinct all
 
 -- from those laws
-pub below_of : DigitsAreNumbers → DecimalsAreNumbers → LowestTermsAre → SixKeys → FewerAreDistinct → TestedAreDistinct
+pub below_of : DigitsAreNumbers → DecimalsAreNumbers → LowestTermsAre → SevenKeys → FewerAreDistinct → TestedAreDistinct
     → Below
-below_of numbers decimals lowest six fewer distinct = record {
+below_of numbers decimals lowest seven fewer distinct = record {
   numbers = numbers;
   decimals = decimals;
   lowest = lowest;
-  said = keys_of_said six;
+  said = keys_of_said seven;
   fewer = fewer;
   own = distinct object_keys refl;
 }

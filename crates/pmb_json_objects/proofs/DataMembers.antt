@@ -1,13 +1,12 @@
 -- What is said of a command's data can be written as JSON: values, numbers, bits and what is raw.
 -- For the law `objects_are_json`. Each code's value is a quantity (Quantities), whose nearest
 -- decimal is a number; other texts are bytes below 256.
-use Rattle.std.proofs.Common.{ℕ, ◌+◌, ◌*◌, ◌/◌, ◌%◌, ◌^◌, ◌<◌, ◌==◌, if◌then◌else◌, Bool, true, false, Option, Some}
-use Rattle.std.proofs.Common.{None, Result, Ok, Err, List, [], ◌∷◌, ◌++◌, codes, refl, arith}
-use Rattle.std.specs.Prelude.{IfSome}
+use Rattle.std.proofs.Common.{◌≡◌, ℕ, ◌+◌, ◌*◌, ◌/◌, ◌%◌, ◌^◌, ◌<◌, ◌==◌, if◌then◌else◌, Bool, true, false, Option}
+use Rattle.std.proofs.Common.{Some, None, Result, Ok, Err, List, [], ◌∷◌, codes, refl, arith}
+use Rattle.std.specs.Prelude.{IfSome, ⊤}
 use Rattle.pmb_coefficients.specs.Coefficients.{Coefficients}
 use Rattle.pmb_command.specs.declared.entry.Kind.{Kind}
-use Rattle.pmb_command.specs.declared.entry.Kind.TheVariants.{Raw, Linear11, Linear11Fixed, Vout, VoutSigned, Direct}
-use Rattle.pmb_command.specs.declared.entry.Kind.TheVariants.{Status}
+use Rattle.pmb_command.specs.declared.entry.Kind.TheVariants.{Raw, Number, Vout, VoutSigned, Status}
 use Rattle.pmb_command.specs.Entry.{EntryParts}
 use Rattle.pmb_command.specs.Parts.{DeviceParts, device_with}
 use Rattle.pmb_decimal.specs.Decimal.{rounded_text}
@@ -15,30 +14,47 @@ use Rattle.pmb_json_fields.specs.declared.access.Access.{Access}
 use Rattle.pmb_json_fields.specs.declared.access.Access.TheVariants as access
 use Rattle.pmb_json_fields.specs.declared.basis.Basis.{Basis}
 use Rattle.pmb_json_fields.specs.declared.basis.Basis.TheVariants.{Told, Assumed}
-use Rattle.pmb_json_fields.specs.Value.{basis_members, bits_members, data_members, format_members, mode_fault_name}
-use Rattle.pmb_json_fields.specs.Value.{of_word}
-use Rattle.pmb_json_fields.specs.Value.{raw_members, set_bits, status_members, value_members, vout_members}
-use Rattle.pmb_format.specs.Coding.{Coding, value_of}
-use Rattle.pmb_format.specs.Direct.{direct}
+use Rattle.pmb_json_fields.specs.Value.{basis_members, bits_members, data_members, format_members, marked_members}
+use Rattle.pmb_json_fields.specs.Value.{no_voltage_name, number_members, of_word, quantity_members, raw_members}
+use Rattle.pmb_json_fields.specs.Value.{set_bits, status_members, value_members, voltage_members, vout_members}
+use Rattle.pmb_json_fields.specs.Value.{word_fault_name}
+use Rattle.pmb_format.specs.Coding.{value_of}
 use Rattle.pmb_format.specs.Words.{twos_complement}
 use Rattle.pmb_unknown_start.specs.declared.mode.KnownMode.{KnownMode}
-use Rattle.pmb_unknown_start.specs.declared.mode.KnownMode.TheVariants.{Known, Unknown, NoPage}
-use Rattle.pmb_linear.specs.Linear.{linear11, linear11_fixed, slinear16, ulinear16}
-use Rattle.pmb_json_text.specs.Json.{IsNumber}
+use Rattle.pmb_unknown_start.specs.declared.mode.KnownMode.TheVariants.{Known, NoPage}
+use Rattle.pmb_unknown_start.specs.declared.mode.KnownMode.TheVariants as known
+use Rattle.pmb_json_text.specs.Json.{IsNumber, string}
 use Rattle.pmb_json_text.specs.Spelling.{AreBytes}
-use Rattle.pmb_json_text.specs.Member.{Member}
+use Rattle.pmb_json_text.specs.Member.{Member, named}
 use Rattle.pmb_quantity.specs.Fraction.{Fraction, IsQuantity}
 use Rattle.pmb_quantity.specs.QuantityText.{spelling}
-use Rattle.pmb_value.specs.Vout.{direct_of, format_of, linear_of}
+use Rattle.pmb_value.specs.NumberFormat.{number_coding}
+use Rattle.pmb_value.specs.Vout.{direct_of, direct_words, format_of, linear_of, vout_coding}
+use Rattle.pmb_value.specs.WordFault.{value_in, value_unless, word_fault}
+use Rattle.pmb_value.specs.declared.number_format.NumberFormat.{NumberFormat}
+use Rattle.pmb_value.specs.declared.number_format.NumberFormat.TheVariants as formats
+use Rattle.pmb_value.specs.declared.number_format.WordFault.{WordFault}
+use Rattle.pmb_value.specs.declared.number_format.WordFault.TheVariants.{NotANumber, NoCode, Off}
+use Rattle.pmb_value.specs.declared.sign.Sign.{Sign}
+use Rattle.pmb_value.specs.declared.sign.Sign.TheVariants.{Unsigned, Signed}
 use Rattle.pmb_value.specs.declared.vout.ModeFault.{ModeFault}
-use Rattle.pmb_value.specs.declared.vout.ModeFault.TheVariants.{Relative, Vid, Ieee, NoCoefficients}
+use Rattle.pmb_value.specs.declared.vout.ModeFault.TheVariants as fault
 use Rattle.pmb_value.specs.declared.vout.VoutFormat.{VoutFormat}
-use Rattle.pmb_json_objects.specs.Laws.{AreOfWords, HasFormats, IsOfWords}
+use Rattle.pmb_value.specs.declared.vout.VoutFormat.TheVariants as vout
+use Rattle.pmb_vid.specs.declared.table.VidTable.{VidTable}
+use Rattle.pmb_voltage.specs.declared.voltage.NoVoltage.{NoVoltage}
+use Rattle.pmb_voltage.specs.declared.voltage.NoVoltage.TheVariants.{Unknown, Page, Vid, Relative}
+use Rattle.pmb_voltage.specs.declared.voltage.NoVoltage.TheVariants.{Coefficients as NoCoefficients}
+use Rattle.pmb_voltage.specs.declared.voltage.VoltageFormat.{VoltageFormat}
+use Rattle.pmb_voltage.specs.Voltage.{VoltagesData, format_by, in_table, is_ratio, is_signed, meaning, named_format}
+use Rattle.pmb_voltage.specs.Voltage.{vid_format, vid_table, voltage_format, voltages_of}
+use Rattle.pmb_json_objects.specs.Laws.{AreOfWords, HasFormats, IsFormatOfWords, IsNumberOfWords, IsOfWords}
 use Rattle.pmb_json_objects.specs.Packets.{data_of, data_of_entry, said_of}
-use Rattle.pmb_json_objects.specs.Seen.{SeenData, basis_at, entry_of, mode_at}
-use Rattle.pmb_json_objects.proofs.Fine.{AreFine, fine_of_both, fine_text, fine_texts, fine_word, of_either}
-use Rattle.pmb_json_objects.proofs.Fine.{tested_bytes}
-use Rattle.pmb_json_objects.proofs.Quantities.{LowestTermsAre, of_direct, of_linear11, of_slinear16, of_ulinear16}
+use Rattle.pmb_json_objects.specs.Seen.{SeenData, basis_at, entry_of, mode_at, page_at}
+use Rattle.pmb_json_objects.proofs.Fine.{AreFine, IsFine, are_bytes, fine_of_both, fine_text, fine_texts, fine_word}
+use Rattle.pmb_json_objects.proofs.Fine.{of_either, tested_bytes}
+use Rattle.pmb_json_objects.proofs.Quantities.{LowestTermsAre, five_bits, of_direct, of_half, of_linear11, of_slinear16}
+use Rattle.pmb_json_objects.proofs.Quantities.{of_ulinear16, of_vid}
 use Rattle.pmb_json_objects.proofs.Texts.{bits_are_bytes, spelling_is_bytes}
 
 -- that the decimal of a quantity is a number
@@ -56,11 +72,20 @@ fine_of_word members (low ∷ high ∷ []) each small =
     each (low + 256 * high) (omega arith)
 fine_of_word members (a ∷ b ∷ c ∷ bytes) each small = tt
 
-fine_raw : (fault : ModeFault) → AreFine (raw_members (mode_fault_name fault))
-fine_raw Relative = (fine_word (codes "raw") (codes "relative") refl refl, tt)
-fine_raw Vid = (fine_word (codes "raw") (codes "vid") refl refl, tt)
-fine_raw Ieee = (fine_word (codes "raw") (codes "ieee") refl refl, tt)
-fine_raw NoCoefficients = (fine_word (codes "raw") (codes "coefficients") refl refl, tt)
+fine_raw : (why : List ℕ) → are_bytes why ≡ true → AreFine (raw_members why)
+fine_raw why plain = (fine_word (codes "raw") why refl plain, tt)
+
+fine_fault : (fault : WordFault) → AreFine (raw_members (word_fault_name fault))
+fine_fault NotANumber = fine_raw (codes "nan") refl
+fine_fault NoCode = fine_raw (codes "code") refl
+fine_fault Off = fine_raw (codes "off") refl
+
+fine_no_voltage : (why : NoVoltage) → AreFine (raw_members (no_voltage_name why))
+fine_no_voltage Unknown = fine_raw (codes "unknown") refl
+fine_no_voltage Page = fine_raw (codes "page") refl
+fine_no_voltage Vid = fine_raw (codes "vid") refl
+fine_no_voltage Relative = fine_raw (codes "relative") refl
+fine_no_voltage NoCoefficients = fine_raw (codes "coefficients") refl
 
 fine_bits : (a : Access) (code value bits : ℕ) → AreFine (bits_members a (set_bits code value bits))
 fine_bits access.Read code value bits = (
@@ -77,14 +102,134 @@ fine_status a code (byte ∷ []) = fine_bits a code byte 8
 fine_status a code (low ∷ high ∷ []) = fine_bits a code (low + 256 * high) 16
 fine_status a code (b ∷ c ∷ d ∷ bytes) = tt
 
+-- ---- formats of output voltages
+
+-- a value, where there is one, is a quantity
+abbrev IsValue : Result Fraction WordFault → Type 0
+IsValue (Ok quantity) = IsQuantity quantity
+IsValue (Err fault) = ⊤
+
+value_unless_fault : (fault : Option WordFault) (value : Fraction) → IsQuantity value
+    → IsValue (value_unless fault value)
+value_unless_fault None value is = is
+value_unless_fault (Some fault) value is = tt
+
+-- what a VOUT_MODE names has an exponent of five bits, or coefficients of 16 bits
+abbrev NamesWords : Result VoutFormat ModeFault → Type 0
+NamesWords (Ok format) = IsFormatOfWords format
+NamesWords (Err fault) = ⊤
+
+-- so has the format of a voltage
+abbrev HasWords : Result NumberFormat NoVoltage → Type 0
+HasWords (Ok format) = IsNumberOfWords format
+HasWords (Err why) = ⊤
+
+abbrev VoltageHasWords : Result VoltageFormat NoVoltage → Type 0
+VoltageHasWords (Ok format) = IsNumberOfWords format.number
+VoltageHasWords (Err why) = ⊤
+
+linear_words : (signed : Bool) (field : ℕ) → field < 32
+    → IsFormatOfWords (linear_of signed (twos_complement 5 field))
+linear_words true field few = five_bits field few
+linear_words false field few = five_bits field few
+
+-- for signed words too
+words_of : (signed : Bool) (d : Coefficients) → AreOfWords d → AreOfWords (direct_words signed d)
+words_of true d words = record {
+  slope = words.slope;
+  offset = words.offset;
+  format = record { slope = words.format.slope; least = words.format.least; greatest = words.format.greatest };
+}
+words_of false d words = words
+
+direct_names_words : (signed : Bool) (coefficients : Option Coefficients) → IfSome coefficients AreOfWords
+    → NamesWords (direct_of signed coefficients)
+direct_names_words signed None words = tt
+direct_names_words signed (Some d) words = words_of signed d words
+
+mode_names_words : (mode : ℕ) (signed : Bool) (coefficients : Option Coefficients) → IfSome coefficients AreOfWords
+    → NamesWords (format_of mode signed coefficients)
+mode_names_words mode signed coefficients words =
+    let kind : ℕ = mode / 2 ^ 5 % 2 ^ 2 in
+    let linear : Result VoutFormat ModeFault = Ok (linear_of signed (twos_complement 5 (mode % 2 ^ 5))) in
+    let not_ieee : Result VoutFormat ModeFault = if kind == 2 then direct_of signed coefficients else linear in
+    let not_vid : Result VoutFormat ModeFault = if kind == 3 then Err fault.Ieee else not_ieee in
+    let not_relative : Result VoutFormat ModeFault = if kind == 1 then Err fault.Vid else not_vid in
+    of_either NamesWords (mode / 2 ^ 7 == 1) (Err fault.Relative) not_relative tt
+    (of_either NamesWords (kind == 1) (Err fault.Vid) not_vid tt
+    (of_either NamesWords (kind == 3) (Err fault.Ieee) not_ieee tt
+    (of_either NamesWords (kind == 2) (direct_of signed coefficients) linear
+    (direct_names_words signed coefficients words) (linear_words signed (mode % 2 ^ 5) (omega arith)))))
+
+table_has_words : (table : Result VidTable NoVoltage) → HasWords (in_table table)
+table_has_words (Ok table) = tt
+table_has_words (Err why) = tt
+
+vid_has_words : (v : VoltagesData) (mode : ℕ) (ratio : Bool) (sign : Sign) → HasWords (vid_format v mode ratio sign)
+vid_has_words v mode true sign = tt
+vid_has_words v mode false Signed = tt
+vid_has_words v mode false Unsigned = table_has_words (vid_table v.vid mode v.page)
+
+named_has_words : (v : VoltagesData) (mode : ℕ) (ratio : Bool) (sign : Sign) (named : Result VoutFormat ModeFault)
+    → NamesWords named → HasWords (named_format v mode ratio sign named)
+named_has_words v mode ratio sign (Ok format) words = words
+named_has_words v mode ratio sign (Err fault.Relative) words = tt
+named_has_words v mode ratio sign (Err fault.Vid) words = vid_has_words v mode ratio sign
+named_has_words v mode ratio sign (Err fault.Ieee) words = tt
+named_has_words v mode ratio sign (Err fault.NoCoefficients) words = tt
+
+meaning_has_words : (ratio : Bool) (format : Result NumberFormat NoVoltage) → HasWords format
+    → VoltageHasWords (meaning ratio format)
+meaning_has_words ratio (Ok number) words = words
+meaning_has_words ratio (Err why) words = tt
+
+known_has_words : (v : VoltagesData) (mode : KnownMode) (code : ℕ) (sign : Sign) → IfSome v.coefficients AreOfWords
+    → VoltageHasWords (format_by v mode code sign)
+known_has_words v (Known mode) code sign words =
+    let signed : Bool = is_signed sign in
+    let named : Result VoutFormat ModeFault = format_of (mode % 2 ^ 7) signed v.coefficients in
+    let ratio : Bool = is_ratio mode code in
+    meaning_has_words ratio (named_format v mode ratio sign named)
+    (named_has_words v mode ratio sign named (mode_names_words (mode % 2 ^ 7) signed v.coefficients words))
+known_has_words v known.Unknown code sign words = tt
+known_has_words v NoPage code sign words = tt
+
 module _ (lowest : LowestTermsAre) (decimals : DecimalsAreNumbers) where
-  fine_value : (digits : ℕ) (coding : Coding) (word : ℕ) → IsQuantity (value_of coding word)
-      → AreFine (value_members digits coding word)
-  fine_value digits coding word is =
-      let q : Fraction = value_of coding word in (
-        fine_text (codes "value") (spelling q) refl (spelling_is_bytes q),
-        (record { key = tested_bytes (codes "number") refl; value = decimals digits q is; flat = tt }, tt),
-      )
+  -- ---- numbers
+
+  fine_exact : (key : List ℕ) (quantity : Fraction) → are_bytes key ≡ true
+      → IsFine (named key (string (spelling quantity)))
+  fine_exact key quantity plain = fine_text key (spelling quantity) plain (spelling_is_bytes quantity)
+
+  fine_quantity : (digits : ℕ) (quantity : Fraction) → IsQuantity quantity → AreFine (quantity_members digits quantity)
+  fine_quantity digits quantity is = (
+    fine_exact (codes "value") quantity refl,
+    (record { key = tested_bytes (codes "number") refl; value = decimals digits quantity is; flat = tt }, tt),
+  )
+
+  fine_value : (digits : ℕ) (value : Result Fraction WordFault) → IsValue value → AreFine (value_members digits value)
+  fine_value digits (Ok quantity) is = fine_quantity digits quantity is
+  fine_value digits (Err fault) is = fine_fault fault
+
+  format_gives_quantities : (format : VoutFormat) (word : ℕ) → IsFormatOfWords format → word < 65536
+      → IsQuantity (value_of (vout_coding format) word)
+  format_gives_quantities (vout.Unsigned exponent) word words fits = of_ulinear16 lowest exponent word words fits
+  format_gives_quantities (vout.Signed exponent) word words fits = of_slinear16 lowest exponent word words fits
+  format_gives_quantities (vout.Direct d) word words fits = of_direct lowest d word words fits
+
+  gives_quantities : (format : NumberFormat) (word : ℕ) → IsNumberOfWords format → word < 65536
+      → IsQuantity (value_of (number_coding format) word)
+  gives_quantities formats.Linear11 word words fits = of_linear11 lowest word fits
+  gives_quantities (formats.Linear11Fixed exponent) word words fits = of_linear11 lowest word fits
+  gives_quantities (formats.Word format) word words fits = format_gives_quantities format word words fits
+  gives_quantities formats.Half word words fits = of_half lowest word fits
+  gives_quantities (formats.Vid table) word words fits = of_vid lowest table word fits
+
+  is_value : (format : NumberFormat) (word : ℕ) → IsNumberOfWords format → word < 65536
+      → IsValue (value_in format word)
+  is_value format word words fits =
+      value_unless_fault (word_fault format word) (value_of (number_coding format) word)
+      (gives_quantities format word words fits)
 
   -- ---- output voltages
 
@@ -92,75 +237,46 @@ module _ (lowest : LowestTermsAre) (decimals : DecimalsAreNumbers) where
   fine_basis Told = tt
   fine_basis Assumed = (fine_word (codes "mode") (codes "assumed") refl refl, tt)
 
+  fine_voltage : (digits : ℕ) (ratio : Bool) (quantity : Fraction) → IsQuantity quantity
+      → AreFine (voltage_members digits ratio quantity)
+  fine_voltage digits true quantity is = (fine_exact (codes "ratio") quantity refl, tt)
+  fine_voltage digits false quantity is = fine_quantity digits quantity is
+
   -- a value, and what its VOUT_MODE rests on
-  fine_marked : (digits : ℕ) (basis : Basis) (coding : Coding) (word : ℕ) → IsQuantity (value_of coding word)
-      → AreFine (value_members digits coding word ++ basis_members basis)
-  fine_marked digits basis coding word is = fine_of_both (value_members digits coding word) (basis_members basis)
-      (fine_value digits coding word is) (fine_basis basis)
+  fine_marked : (digits : ℕ) (ratio : Bool) (basis : Basis) (value : Result Fraction WordFault) → IsValue value
+      → AreFine (marked_members digits ratio basis value)
+  fine_marked digits ratio basis (Ok quantity) is =
+      fine_of_both (voltage_members digits ratio quantity) (basis_members basis)
+      (fine_voltage digits ratio quantity is) (fine_basis basis)
+  fine_marked digits ratio basis (Err fault) is = fine_fault fault
 
-  fine_linear : (digits : ℕ) (basis : Basis) (signed : Bool) (field word : ℕ) → field < 32 → word < 65536
-      → AreFine (format_members digits basis (Ok (linear_of signed (twos_complement 5 field))) word)
-  fine_linear digits basis true field word few fits =
-      fine_marked digits basis (slinear16 (twos_complement 5 field)) word (of_slinear16 lowest field word few fits)
-  fine_linear digits basis false field word few fits =
-      fine_marked digits basis (ulinear16 (twos_complement 5 field)) word (of_ulinear16 lowest field word few fits)
+  fine_format : (digits : ℕ) (basis : Basis) (format : Result VoltageFormat NoVoltage) (word : ℕ)
+      → VoltageHasWords format → word < 65536 → AreFine (format_members digits basis format word)
+  fine_format digits basis (Ok format) word words fits =
+      fine_marked digits format.is_ratio basis (value_in format.number word) (is_value format.number word words fits)
+  fine_format digits basis (Err why) word words fits = fine_no_voltage why
 
-  fine_direct : (digits : ℕ) (basis : Basis) (coefficients : Option Coefficients) (word : ℕ)
-      → IfSome coefficients AreOfWords → word < 65536
-      → AreFine (format_members digits basis (direct_of coefficients) word)
-  fine_direct digits basis None word words fits = fine_raw NoCoefficients
-  fine_direct digits basis (Some d) word words fits = fine_marked digits basis (direct d) word
-      (of_direct lowest d word words fits)
-
-  fine_format : (digits mode : ℕ) (basis : Basis) (signed : Bool) (coefficients : Option Coefficients) (word : ℕ)
-      → IfSome coefficients AreOfWords → word < 65536
-      → AreFine (format_members digits basis (format_of mode signed coefficients) word)
-  fine_format digits mode basis signed coefficients word words fits =
-      let P : Result VoutFormat ModeFault → Type 0 = λ r. AreFine (format_members digits basis r word) in
-      let kind : ℕ = mode / 2 ^ 5 % 2 ^ 2 in
-      let linear : Result VoutFormat ModeFault = Ok (linear_of signed (twos_complement 5 (mode % 2 ^ 5))) in
-      let not_ieee : Result VoutFormat ModeFault = if kind == 2 then direct_of coefficients else linear in
-      let not_vid : Result VoutFormat ModeFault = if kind == 3 then Err Ieee else not_ieee in
-      let not_relative : Result VoutFormat ModeFault = if kind == 1 then Err Vid else not_vid in
-      of_either P (mode / 2 ^ 7 == 1) (Err Relative) not_relative (fine_raw Relative)
-      (of_either P (kind == 1) (Err Vid) not_vid (fine_raw Vid)
-      (of_either P (kind == 3) (Err Ieee) not_ieee (fine_raw Ieee)
-      (of_either P (kind == 2) (direct_of coefficients) linear (fine_direct digits basis coefficients word words fits)
-      (fine_linear digits basis signed (mode % 2 ^ 5) word (omega arith) fits))))
-
-  fine_vout : (digits : ℕ) (mode : KnownMode) (basis : Basis) (signed : Bool) (coefficients : Option Coefficients)
-      (word : ℕ) → IfSome coefficients AreOfWords → word < 65536
-      → AreFine (vout_members digits mode basis signed coefficients word)
-  fine_vout digits (Known mode) basis signed coefficients word words fits =
-      fine_format digits mode basis signed coefficients word words fits
-  fine_vout digits Unknown basis signed coefficients word words fits =
-      (fine_word (codes "raw") (codes "unknown") refl refl, tt)
-  fine_vout digits NoPage basis signed coefficients word words fits =
-      (fine_word (codes "raw") (codes "page") refl refl, tt)
+  fine_vout : (digits : ℕ) (v : VoltagesData) (basis : Basis) (code : ℕ) (sign : Sign) (word : ℕ)
+      → IfSome v.coefficients AreOfWords → word < 65536 → AreFine (vout_members digits v basis code sign word)
+  fine_vout digits v basis code sign word words fits =
+      fine_format digits basis (voltage_format v code sign) word (known_has_words v v.mode code sign words) fits
 
   -- ---- by the command's kind
 
-  fine_data : (digits : ℕ) (a : Access) (mode : KnownMode) (basis : Basis) (coefficients : Option Coefficients)
-      (code : ℕ) (kind : Kind) (bytes : List ℕ)
-      → IfSome coefficients AreOfWords → IsOfWords kind → AreBytes bytes
-      → AreFine (data_members digits a mode basis coefficients code kind bytes)
-  fine_data digits a mode basis coefficients code Raw bytes vout words small = tt
-  fine_data digits a mode basis coefficients code Linear11 bytes vout words small =
-      fine_of_word (value_members digits linear11) bytes
-      (λ word fits. fine_value digits linear11 word (of_linear11 lowest word fits)) small
-  fine_data digits a mode basis coefficients code (Linear11Fixed exponent) bytes vout words small =
-      fine_of_word (value_members digits (linear11_fixed exponent)) bytes
-      (λ word fits. fine_value digits (linear11_fixed exponent) word (of_linear11 lowest word fits)) small
-  fine_data digits a mode basis coefficients code Vout bytes vout words small =
-      fine_of_word (vout_members digits mode basis false coefficients) bytes
-      (λ word fits. fine_vout digits mode basis false coefficients word vout fits) small
-  fine_data digits a mode basis coefficients code VoutSigned bytes vout words small =
-      fine_of_word (vout_members digits mode basis true coefficients) bytes
-      (λ word fits. fine_vout digits mode basis true coefficients word vout fits) small
-  fine_data digits a mode basis coefficients code (Direct d) bytes vout words small =
-      fine_of_word (value_members digits (direct d)) bytes
-      (λ word fits. fine_value digits (direct d) word (of_direct lowest d word words fits)) small
-  fine_data digits a mode basis coefficients code Status bytes vout words small = fine_status a code bytes
+  fine_data : (digits : ℕ) (a : Access) (v : VoltagesData) (basis : Basis) (code : ℕ) (kind : Kind) (bytes : List ℕ)
+      → IfSome v.coefficients AreOfWords → IsOfWords kind → AreBytes bytes
+      → AreFine (data_members digits a v basis code kind bytes)
+  fine_data digits a v basis code Raw bytes vout words small = tt
+  fine_data digits a v basis code (Number format) bytes vout words small =
+      fine_of_word (number_members digits format) bytes
+      (λ word fits. fine_value digits (value_in format word) (is_value format word words fits)) small
+  fine_data digits a v basis code Vout bytes vout words small =
+      fine_of_word (vout_members digits v basis code Unsigned) bytes
+      (λ word fits. fine_vout digits v basis code Unsigned word vout fits) small
+  fine_data digits a v basis code VoutSigned bytes vout words small =
+      fine_of_word (vout_members digits v basis code Signed) bytes
+      (λ word fits. fine_vout digits v basis code Signed word vout fits) small
+  fine_data digits a v basis code Status bytes vout words small = fine_status a code bytes
 
   fine_of_entry : (seen : SeenData) (a : Access) (addr code : ℕ) (device : DeviceParts) (entry : Option EntryParts)
       (bytes : List ℕ)
@@ -168,8 +284,8 @@ module _ (lowest : LowestTermsAre) (decimals : DecimalsAreNumbers) where
       → AreFine (data_of_entry seen a addr code device entry bytes)
   fine_of_entry seen a addr code device None bytes vout words small = tt
   fine_of_entry seen a addr code device (Some entry) bytes vout words small =
-      fine_data seen.digits a (mode_at seen addr) (basis_at seen addr) device.vout_direct code entry.kind bytes vout
-      words small
+      fine_data seen.digits a (voltages_of device (mode_at seen addr) (page_at seen addr)) (basis_at seen addr) code
+      entry.kind bytes vout words small
 
   fine_of_device : (seen : SeenData) (a : Access) (addr code : ℕ) (device : Option DeviceParts) (bytes : List ℕ)
       → IfSome device (λ d. IfSome d.vout_direct AreOfWords) → IfSome (entry_of device code) (λ e. IsOfWords e.kind)

@@ -4,8 +4,12 @@ use Rattle.std.specs.Prelude.{unsigned_abs}
 use Rattle.std.specs.List.{AllByRecursion}
 use Rattle.pmb_coefficients.specs.Coefficients.{Coefficients, MakeFormat}
 use Rattle.pmb_command.specs.declared.entry.Kind.{Kind}
-use Rattle.pmb_command.specs.declared.entry.Kind.TheVariants.{Raw, Linear11, Linear11Fixed, Vout, VoutSigned, Direct}
-use Rattle.pmb_command.specs.declared.entry.Kind.TheVariants.{Status}
+use Rattle.pmb_command.specs.declared.entry.Kind.TheVariants.{Raw, Number, Vout, VoutSigned, Status}
+use Rattle.pmb_value.specs.declared.number_format.NumberFormat.{NumberFormat}
+use Rattle.pmb_value.specs.declared.number_format.NumberFormat.TheVariants as formats
+use Rattle.pmb_value.specs.declared.vout.VoutFormat.{VoutFormat}
+use Rattle.pmb_value.specs.declared.vout.VoutFormat.TheVariants.{Unsigned, Signed, Direct}
+use Rattle.pmb_coefficients.specs.Exponent.{IsExponent}
 use Rattle.pmb_command.specs.Bus.{IsBus}
 use Rattle.pmb_command.specs.Parts.{device_with}
 use Rattle.pmb_json_text.specs.Json.{HasDistinctKeys}
@@ -32,7 +36,7 @@ object_keys =
     ∷ codes "writes" ∷ codes "reads" ∷ codes "calls" ∷ codes "packets" ∷ codes "refused" ∷ codes "refusals"
     ∷ codes "bad_tokens" ∷ codes "others" ∷ codes "code" ∷ codes "command" ∷ codes "page"
     ∷ codes "bytes" ∷ codes "byte" ∷ codes "sent" ∷ codes "reply" ∷ codes "pec" ∷ codes "right_pec" ∷ codes "word"
-    ∷ codes "value" ∷ codes "number" ∷ codes "mode" ∷ codes "raw" ∷ codes "bits" ∷ codes "clears" ∷ []
+    ∷ codes "value" ∷ codes "number" ∷ codes "ratio" ∷ codes "mode" ∷ codes "raw" ∷ codes "bits" ∷ codes "clears" ∷ []
 
 -- ---- numbers of 64 bits
 
@@ -60,14 +64,25 @@ pub record AreOfWords (d : Coefficients) : Type 0 where
   pub offset : unsigned_abs d.b ≤ 2 ^ 15
   pub format : MakeFormat d
 
--- those of a kind in DIRECT
+-- those of a format in DIRECT, and the exponent of a linear one
+abbrev pub IsFormatOfWords : VoutFormat → Type 0
+IsFormatOfWords (Unsigned exponent) = IsExponent exponent
+IsFormatOfWords (Signed exponent) = IsExponent exponent
+IsFormatOfWords (Direct d) = AreOfWords d
+
+abbrev pub IsNumberOfWords : NumberFormat → Type 0
+IsNumberOfWords formats.Linear11 = ⊤
+IsNumberOfWords (formats.Linear11Fixed exponent) = ⊤
+IsNumberOfWords (formats.Word format) = IsFormatOfWords format
+IsNumberOfWords formats.Half = ⊤
+IsNumberOfWords (formats.Vid table) = ⊤
+
+-- those of a kind
 abbrev pub IsOfWords : Kind → Type 0
 IsOfWords Raw = ⊤
-IsOfWords Linear11 = ⊤
-IsOfWords (Linear11Fixed exponent) = ⊤
+IsOfWords (Number format) = IsNumberOfWords format
 IsOfWords Vout = ⊤
 IsOfWords VoutSigned = ⊤
-IsOfWords (Direct d) = AreOfWords d
 IsOfWords Status = ⊤
 
 -- The profile is accepted, and PAGE of the device with an address is a byte.
@@ -75,7 +90,8 @@ pub record IsSeen (seen : SeenData) (addr : ℕ) : Type 0 where
   pub bus : IsBus seen.profile
   pub page : IfSome (page_at seen addr) (λ page. page < 256)
 
--- The coefficients of that device's output voltage, and of its command with a code, are such ones.
+-- The coefficients of that device's output voltages have 16 bits and make a format, and the kind of its
+-- command with a code has such coefficients, or an exponent of five bits, where it has any.
 pub record HasFormats (seen : SeenData) (addr code : ℕ) : Type 0 where
   pub vout : IfSome (device_with addr seen.profile) (λ device. IfSome device.vout_direct AreOfWords)
   pub kind : IfSome (entry_at seen addr code) (λ entry. IsOfWords entry.kind)

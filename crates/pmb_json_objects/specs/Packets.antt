@@ -25,7 +25,8 @@ use Rattle.pmb_json_objects.specs.Head.{Head, head_at}
 use Rattle.pmb_json_objects.specs.Members.{command_members, device_member, device_members, head_members, part_members}
 use Rattle.pmb_json_objects.specs.Members.{sent_command}
 use Rattle.pmb_json_objects.specs.Object.{Object, of_device, of_none}
-use Rattle.pmb_json_objects.specs.Seen.{SeenData, basis_at, entry_of, mode_at}
+use Rattle.pmb_voltage.specs.Voltage.{voltages_of}
+use Rattle.pmb_json_objects.specs.Seen.{SeenData, basis_at, entry_of, mode_at, page_at}
 
 -- the number of each START among events, before the first of which n came
 abbrev pub starts : ℕ → List Event → List ℕ
@@ -42,7 +43,8 @@ starts n (Stop ∷ events) = starts (n + 1) events
 abbrev pub data_of_entry : SeenData → Access → ℕ → ℕ → DeviceParts → Option EntryParts → List ℕ → List Member
 data_of_entry seen access addr code device None bytes = []
 data_of_entry seen access addr code device (Some entry) bytes =
-    data_members seen.digits access (mode_at seen addr) (basis_at seen addr) device.vout_direct code entry.kind bytes
+    data_members seen.digits access (voltages_of device (mode_at seen addr) (page_at seen addr)) (basis_at seen addr)
+    code entry.kind bytes
 
 abbrev pub data_of : SeenData → Access → ℕ → ℕ → Option DeviceParts → List ℕ → List Member
 data_of seen access addr code None bytes = []

@@ -12,6 +12,7 @@ ghost use Rattle.pmb_json_objects.specs.Sees.{Sees};
 use crate::seen::Seen;
 use arrayvec::ArrayVec;
 use pmb_json_fields::{Access, DATA_MEMBERS, data_members};
+use pmb_voltage::Voltages;
 
 /// Appends what is said of the data of a command, where a device has that address, and the command.
 pub(crate) fn append_data<const N: usize>(
@@ -32,16 +33,19 @@ pub(crate) fn append_data<const N: usize>(
     let Some(entry) = device.entry(code) else {
         return;
     };
-    let mode = seen.mode(addr);
+    let voltages = Voltages {
+        mode: seen.mode(addr),
+        page: seen.page(addr),
+        coefficients: device.vout_direct(),
+        vid: device.vid(),
+    };
     let basis = seen.basis(addr);
-    let coefficients = device.vout_direct();
     data_members(
         out,
         seen.digits,
         access,
-        mode,
+        &voltages,
         basis,
-        coefficients,
         code,
         entry.kind,
         bytes,

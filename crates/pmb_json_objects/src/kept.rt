@@ -2,7 +2,7 @@
 
 ghost use Rattle.std.specs.Prelude.{◌<◌, IfSome, option_map};
 ghost use Rattle.pmb_command.specs.Entry.{entry_parts};
-ghost use Rattle.pmb_json_objects.specs.Laws.{AreOfWords, HasFormats, IsOfWords, IsSeen};
+ghost use Rattle.pmb_json_objects.specs.Laws.{AreOfWords, HasFormats, IsFormatOfWords, IsNumberOfWords, IsOfWords, IsSeen};
 ghost use Rattle.pmb_json_objects.specs.Seen.{SeenData};
 ghost use Rattle.pmb_json_objects.specs.Sees.{Sees};
 
@@ -11,9 +11,11 @@ use pmb_coefficients::Direct;
 use pmb_command::{Entry, Kind};
 use pmb_table::DeviceProfile;
 use pmb_table::laws::accepted_bus;
+use pmb_value::{NumberFormat, VoutFormat};
 
-/// The profile of a [`Seen`] is accepted, PAGE is a byte, and coefficients have 16 bits and make a
-/// format: what [`objects_are_json`](crate::laws::objects_are_json) needs of a device and its command.
+/// The profile of a [`Seen`] is accepted, PAGE is a byte, coefficients have 16 bits and make a format, and
+/// exponents have five bits: what [`objects_are_json`](crate::laws::objects_are_json) needs of a device
+/// and its command.
 pub fn what_is_seen_fits(seen: &Seen<'_>, addr: u8, code: u8)
     ensures seen { (known : SeenData) → Sees seen.now known → IsSeen known addr }
     ensures formats { (known : SeenData) → Sees seen.now known → HasFormats known addr code }
@@ -63,13 +65,36 @@ fn kind_has_words(kind: Kind)
     ensures { IsOfWords kind }
 {
     match kind {
-        Kind::Direct(coefficients) => are_words(coefficients),
-        Kind::Raw
-        | Kind::Linear11
-        | Kind::Linear11Fixed(_)
-        | Kind::Vout
-        | Kind::VoutSigned
-        | Kind::Status => {}
+        Kind::Number(format) => number_has_words(format),
+        Kind::Raw | Kind::Vout | Kind::VoutSigned | Kind::Status => {}
+    }
+}
+
+/// Those of a number format.
+fn number_has_words(format: NumberFormat)
+    ensures { IsNumberOfWords format }
+{
+    match format {
+        NumberFormat::Word(format) => format_has_words(format),
+        NumberFormat::Linear11
+        | NumberFormat::Linear11Fixed(_)
+        | NumberFormat::Half
+        | NumberFormat::Vid(_) => {}
+    }
+}
+
+/// Those of a format, or its exponent.
+fn format_has_words(format: VoutFormat)
+    ensures { IsFormatOfWords format }
+{
+    match format {
+        VoutFormat::Unsigned(linear) => {
+            let _exponent = linear.exponent();
+        }
+        VoutFormat::Signed(linear) => {
+            let _exponent = linear.exponent();
+        }
+        VoutFormat::Direct(coefficients) => are_words(coefficients),
     }
 }
 

@@ -24,7 +24,7 @@ ghost use Rattle.pmb_json_objects.specs.Seen.{SeenData};
 
 pub use crate::kept::what_is_seen_fits;
 use pmb_decimal::laws::decimals_are_numbers;
-use pmb_json_fields::laws::keys_are_some_of_six;
+use pmb_json_fields::laws::keys_are_some_of_seven;
 use pmb_json_text::laws::{
     digits_are_a_number, fewer_keys_are_distinct, line_is_json, spelling_fits_in_line,
     tested_keys_are_distinct,
@@ -60,7 +60,7 @@ pub fn objects_are_json()
     ensures counts { (profile : List DeviceParts) (gives_others : Bool) (addr : ℕ) (c : DeviceData) → IsBus profile → IsJsonObject (counts_object profile gives_others addr c).members }
     ensures end { (gives_others : Bool) (c : CountsData) → IsJsonObject (end_object gives_others c).members }
 {
-    keys_are_some_of_six();
+    keys_are_some_of_seven();
     digits_are_a_number();
     decimals_are_numbers();
     lowest_terms();

@@ -1,5 +1,5 @@
 -- What a table of a profile says of one command.
-use Rattle.std.specs.Prelude.{ℕ, ℤ, pos, negsuc, Bool, true, false, not, ◌&&◌, ◌||◌, ◌%◌, is_some, Option, Some, None}
+use Rattle.std.specs.Prelude.{ℕ, ℤ, pos, negsuc, Bool, true, false, if◌then◌else◌, not, ◌&&◌, ◌||◌, ◌%◌, is_some, Option, Some, None}
 use Rattle.std.specs.Prelude.{Result, Ok, Err, List, [], ◌∷◌, codes, length, nat_eq, int_le}
 use Rattle.std.specs.List.{list_any}
 use Rattle.std.specs.Option.{option_and_then}
@@ -8,19 +8,23 @@ use Rattle.std.specs.Result.{result_ok}
 use Rattle.toml.specs.Data.{Data, Items, Members, as_array, as_str, as_integer, as_bool, as_table, get_member}
 use Rattle.hex.specs.Hex.{decode_of}
 use Rattle.pmb_coefficients.specs.Coefficients.{Coefficients}
+use Rattle.pmb_vid.specs.declared.table.VidTable.TheVariants.{Vr11, Vr12, Vr13, Imvp9, Amd625mv, Nvidia195mv}
+use Rattle.pmb_value.specs.declared.vout.VoutFormat.{VoutFormat}
+use Rattle.pmb_value.specs.declared.vout.VoutFormat.TheVariants.{Unsigned, Signed, Direct}
+use Rattle.pmb_value.specs.declared.number_format.NumberFormat.{NumberFormat}
+use Rattle.pmb_value.specs.declared.number_format.NumberFormat.TheVariants.{Linear11, Linear11Fixed, Word, Half, Vid}
 use Rattle.pmb_keys.specs.declared.fault.FaultKind.{FaultKind}
 use Rattle.pmb_keys.specs.declared.fault.FaultKind.TheVariants as faults
 use Rattle.pmb_command.specs.declared.form.Form.{Form}
 use Rattle.pmb_command.specs.declared.form.Form.TheVariants.{Zero, One, Two, Four, Eight, Block}
 use Rattle.pmb_command.specs.declared.form.Shape.{Shape}
 use Rattle.pmb_command.specs.declared.entry.Kind.{Kind}
-use Rattle.pmb_command.specs.declared.entry.Kind.TheVariants.{Raw, Linear11, Linear11Fixed, Vout, VoutSigned, Direct}
-use Rattle.pmb_command.specs.declared.entry.Kind.TheVariants.{Status}
+use Rattle.pmb_command.specs.declared.entry.Kind.TheVariants.{Raw, Number, Vout, VoutSigned, Status}
 use Rattle.pmb_command.specs.Entry.{EntryParts}
 use Rattle.pmb_command.specs.Commands.{standard_entry, code_of_name}
 use Rattle.pmb_command.specs.Parts.{CommandParts, InitialParts, Same, Each}
 use Rattle.pmb_command.specs.Names.{code_name, is_name}
-use Rattle.pmb_command.specs.Fitting.{register_form, is_exponent, is_length, is_fitting}
+use Rattle.pmb_command.specs.Fitting.{register_form, is_length, is_fitting}
 use Rattle.pmb_keys.specs.Rules.{bind, or_fault, unless, named, natural_within, only, typed, required, optional}
 use Rattle.pmb_keys.specs.Rules.{defaulted, each_of, item_count}
 
@@ -29,7 +33,7 @@ abbrev pub command_key_names : List (List ℕ)
 command_key_names =
     codes "code" ∷ codes "name" ∷ codes "write" ∷ codes "read" ∷ codes "call" ∷ codes "kind" ∷ codes "m" ∷ codes "b"
     ∷ codes "r"
-    ∷ codes "exponent" ∷ codes "paged" ∷ codes "initial" ∷ []
+    ∷ codes "exponent" ∷ codes "paged" ∷ codes "initial" ∷ codes "unsigned" ∷ []
 
 -- the words for the forms in which a command is written, read and called
 abbrev pub write_forms : List (List ℕ × Option Form)
@@ -97,7 +101,7 @@ coefficients ms =
     bind (coefficient is_slope (codes "m") ms) (λ m.
     bind (coefficient is_offset (codes "b") ms) (λ b.
     bind (coefficient is_scale (codes "r") ms) (λ r.
-    Ok (record { m = m; b = b; r = r }))))
+    Ok (record { m = m; b = b; r = r; unsigned = false }))))
 
 -- an integer that may not be there; its type is looked at first
 abbrev pub absent_of : Option Data → Result Unit FaultKind
@@ -132,12 +136,36 @@ plain_kind kind ms = bind (no_coefficients ms) (λ _. Ok kind)
 
 -- DIRECT, with which they have to be there
 abbrev pub direct_kind : KindRule
-direct_kind ms = bind (coefficients ms) (λ d. Ok (Direct d))
+direct_kind ms = bind (coefficients ms) (λ d. Ok (Number (Word (Direct d))))
+
+-- an exponent of two, of five bits in two's complement
+abbrev pub is_exponent : ℤ → Bool
+is_exponent exponent = int_le (negsuc 15) exponent && int_le exponent (pos 15)
+
+abbrev pub exponent_value : Data → Result ℤ FaultKind
+exponent_value d = bind (typed as_integer d)
+    (λ exponent. bind (unless faults.BadValue (is_exponent exponent)) (λ _. Ok exponent))
+
+-- ULINEAR16 or SLINEAR16, with which the exponent has to be there
+abbrev pub linear16_kind : (ℤ → VoutFormat) → KindRule
+linear16_kind format ms =
+    bind (no_coefficients ms) (λ _.
+    bind (required exponent_value (codes "exponent") ms) (λ exponent.
+    Ok (Number (Word (format exponent)))))
 
 abbrev pub kind_words : List (List ℕ × KindRule)
 kind_words =
-    (codes "raw", plain_kind Raw) ∷ (codes "linear11", plain_kind Linear11) ∷ (codes "vout", plain_kind Vout)
+    (codes "raw", plain_kind Raw) ∷ (codes "linear11", plain_kind (Number Linear11)) ∷ (codes "vout", plain_kind Vout)
     ∷ (codes "vout_signed", plain_kind VoutSigned) ∷ (codes "direct", direct_kind) ∷ (codes "status", plain_kind Status)
+    ∷ (codes "half", plain_kind (Number Half))
+    ∷ (codes "ulinear16", linear16_kind Unsigned)
+    ∷ (codes "slinear16", linear16_kind Signed)
+    ∷ (codes "vid:vr11", plain_kind (Number (Vid Vr11)))
+    ∷ (codes "vid:vr12", plain_kind (Number (Vid Vr12)))
+    ∷ (codes "vid:vr13", plain_kind (Number (Vid Vr13)))
+    ∷ (codes "vid:imvp9", plain_kind (Number (Vid Imvp9)))
+    ∷ (codes "vid:amd625mv", plain_kind (Number (Vid Amd625mv)))
+    ∷ (codes "vid:nvidia195mv", plain_kind (Number (Vid Nvidia195mv)))
     ∷ []
 
 -- the kind, where that of the base stays without a key, and then its coefficients
@@ -148,27 +176,82 @@ kind_rule base ms = bind (defaulted (word_rule faults.BadValue kind_words) (plai
 -- the data are numbers in LINEAR11
 abbrev pub is_linear11 : Kind → Bool
 is_linear11 Raw = false
-is_linear11 Linear11 = true
-is_linear11 (Linear11Fixed exponent) = true
+is_linear11 (Number Linear11) = true
+is_linear11 (Number (Linear11Fixed exponent)) = true
+is_linear11 (Number (Word format)) = false
+is_linear11 (Number Half) = false
+is_linear11 (Number (Vid table)) = false
 is_linear11 Vout = false
 is_linear11 VoutSigned = false
-is_linear11 (Direct d) = false
 is_linear11 Status = false
 
--- the exponent that a key fixes; its type is looked at first, then that it goes with LINEAR11 alone
-abbrev pub exponent_of : Kind → Option Data → Result Kind FaultKind
-exponent_of kind None = Ok kind
-exponent_of kind (Some d) =
+-- .. or in ULINEAR16 or SLINEAR16, whose exponent was read together with the kind
+abbrev pub has_exponent : Kind → Bool
+has_exponent Raw = false
+has_exponent (Number Linear11) = false
+has_exponent (Number (Linear11Fixed exponent)) = false
+has_exponent (Number (Word (Unsigned exponent))) = true
+has_exponent (Number (Word (Signed exponent))) = true
+has_exponent (Number (Word (Direct d))) = false
+has_exponent (Number Half) = false
+has_exponent (Number (Vid table)) = false
+has_exponent Vout = false
+has_exponent VoutSigned = false
+has_exponent Status = false
+
+-- the exponent that a key fixes for LINEAR11; its type is looked at first, then that it goes with LINEAR11
+-- alone
+abbrev pub fixed_exponent : Kind → Data → Result Kind FaultKind
+fixed_exponent kind d =
     bind (typed as_integer d) (λ exponent.
     bind (unless faults.UnknownKey (is_linear11 kind)) (λ _.
     bind (unless faults.BadValue (is_exponent exponent)) (λ _.
-    Ok (Linear11Fixed exponent))))
+    Ok (Number (Linear11Fixed exponent)))))
+
+abbrev pub exponent_of : Kind → Option Data → Result Kind FaultKind
+exponent_of kind None = Ok kind
+exponent_of kind (Some d) = if has_exponent kind then Ok kind else fixed_exponent kind d
 
 -- a kind, with the exponent where a key fixes one
 abbrev pub exponent_rule : Kind → Members → Result Kind FaultKind
 exponent_rule kind ms = exponent_of kind (get_member (codes "exponent") ms)
 
--- What the keys but for `initial` say, each ruled in its turn.
+-- coefficients for words that count as they stand, or in two's complement
+abbrev pub of_words : Bool → Coefficients → Coefficients
+of_words unsigned d = record { m = d.m; b = d.b; r = d.r; unsigned = unsigned }
+
+-- a kind for such words: DIRECT alone has them
+abbrev pub kind_of_words : Bool → Kind → Result Kind FaultKind
+kind_of_words unsigned Raw = Err faults.UnknownKey
+kind_of_words unsigned (Number Linear11) = Err faults.UnknownKey
+kind_of_words unsigned (Number (Linear11Fixed exponent)) = Err faults.UnknownKey
+kind_of_words unsigned (Number (Word (Unsigned exponent))) = Err faults.UnknownKey
+kind_of_words unsigned (Number (Word (Signed exponent))) = Err faults.UnknownKey
+kind_of_words unsigned (Number (Word (Direct d))) = Ok (Number (Word (Direct (of_words unsigned d))))
+kind_of_words unsigned (Number Half) = Err faults.UnknownKey
+kind_of_words unsigned (Number (Vid table)) = Err faults.UnknownKey
+kind_of_words unsigned Vout = Err faults.UnknownKey
+kind_of_words unsigned VoutSigned = Err faults.UnknownKey
+kind_of_words unsigned Status = Err faults.UnknownKey
+
+-- whether words count as they stand, by a key; its type is looked at first, then that it goes with DIRECT
+-- alone
+abbrev pub words_of : Kind → Option Data → Result Kind FaultKind
+words_of kind None = Ok kind
+words_of kind (Some d) = bind (typed as_bool d) (λ unsigned. kind_of_words unsigned kind)
+
+abbrev pub words_rule : Kind → Members → Result Kind FaultKind
+words_rule kind ms = words_of kind (get_member (codes "unsigned") ms)
+
+-- an entry with another kind
+abbrev pub with_kind : EntryParts → Kind → EntryParts
+with_kind e kind = record { code = e.code; name = e.name; shape = e.shape; kind = kind; paged = e.paged }
+
+-- .. with the one that the key `unsigned` makes of its kind
+abbrev pub unsigned_rule : EntryParts → Members → Result EntryParts FaultKind
+unsigned_rule e ms = bind (words_rule e.kind ms) (λ kind. Ok (with_kind e kind))
+
+-- What the keys but for `initial` and those after it say, each ruled in its turn.
 abbrev pub entry_rule : Members → Result EntryParts FaultKind
 entry_rule ms =
     bind (only command_key_names ms) (λ _.
@@ -233,12 +316,13 @@ initial_of e pages (Some d) = bind (initial_rule e pages d (as_array d)) (λ ini
 abbrev pub command_of : ℕ → List ℕ → Data → Result CommandParts FaultKind
 command_of pages taken d =
     bind (typed as_table d) (λ ms.
-    bind (entry_rule ms) (λ entry.
+    bind (entry_rule ms) (λ worded.
     bind (initial_value ms) (λ value.
+    bind (unsigned_rule worded ms) (λ entry.
     bind (unless faults.CodeTwice (not (list_any (nat_eq entry.code) taken))) (λ _.
     bind (unless faults.BadForm (is_fitting entry)) (λ _.
     bind (initial_of entry pages value) (λ initial.
-    Ok (record { entry = entry; initial = initial })))))))
+    Ok (record { entry = entry; initial = initial }))))))))
 
 -- What of `initial` is refused without memory: a string for a command that says nothing of a register, or
 -- of an odd number of digits, and an array for a command without a value for each page, or with another
@@ -259,8 +343,9 @@ initial_check e pages (Some d) = value_check e pages d (as_array d)
 abbrev pub command_check : ℕ → List ℕ → Data → Result Unit FaultKind
 command_check pages taken d =
     bind (typed as_table d) (λ ms.
-    bind (entry_rule ms) (λ entry.
+    bind (entry_rule ms) (λ worded.
     bind (initial_value ms) (λ value.
+    bind (unsigned_rule worded ms) (λ entry.
     bind (unless faults.CodeTwice (not (list_any (nat_eq entry.code) taken))) (λ _.
     bind (unless faults.BadForm (is_fitting entry)) (λ _.
-    initial_check entry pages value)))))
+    initial_check entry pages value))))))

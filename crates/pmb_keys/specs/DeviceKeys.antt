@@ -1,5 +1,5 @@
 -- What a table of a profile says of one device, apart from its commands.
-use Rattle.std.specs.Prelude.{ℕ, Bool, true, not, Option, Some, None, Result, Ok, List, [], ◌∷◌, codes, nat_eq}
+use Rattle.std.specs.Prelude.{ℕ, Bool, true, false, not, Option, Some, None, Result, Ok, List, [], ◌∷◌, codes, nat_eq}
 use Rattle.std.specs.Prelude.{replicate}
 use Rattle.std.specs.List.{list_any}
 use Rattle.toml.specs.Data.{Data, Items, no_items, Members, as_integer, as_bool, as_array, as_str, as_table}
@@ -9,7 +9,9 @@ use Rattle.pmb_keys.specs.declared.fault.FaultKind.TheVariants as faults
 use Rattle.pmb_command.specs.Names.{is_device_name}
 use Rattle.pmb_command.specs.declared.pec_mode.PecMode.{PecMode}
 use Rattle.pmb_command.specs.declared.pec_mode.PecMode.TheVariants.{Off, On, Optional}
-use Rattle.pmb_keys.specs.CommandRules.{byte_rule, word_rule, coefficients}
+use Rattle.pmb_command.specs.Parts.{VidParts}
+use Rattle.pmb_keys.specs.CommandRules.{byte_rule, word_rule, coefficients, of_words}
+use Rattle.pmb_keys.specs.VidRule.{vid_rule}
 use Rattle.pmb_keys.specs.Rules.{bind, or_fault, unless, natural_within, only, typed, required, optional, defaulted}
 use Rattle.pmb_keys.specs.Rules.{each_of, item_count}
 
@@ -18,7 +20,7 @@ abbrev pub device_key_names : List (List ℕ)
 device_key_names =
     codes "address" ∷ codes "pec" ∷ codes "pages" ∷ codes "vout_mode" ∷ codes "standard" ∷ codes "vout_direct"
     ∷ codes "command"
-    ∷ codes "name" ∷ []
+    ∷ codes "name" ∷ codes "vid" ∷ []
 
 -- 08h to 77h without 0ch (SMBus 3.0 appendix C: the others are reserved, and 0ch is the Alert
 -- Response Address), no earlier device's, and none of those that are ignored
@@ -57,8 +59,10 @@ name_rule d = bind (typed as_str d) (λ text. bind (unless faults.BadName (is_de
 abbrev pub coefficients_rule : Data → Result Coefficients FaultKind
 coefficients_rule d =
     bind (typed as_table d) (λ ms.
-    bind (only (codes "m" ∷ codes "b" ∷ codes "r" ∷ []) ms) (λ _.
-    coefficients ms))
+    bind (only (codes "m" ∷ codes "b" ∷ codes "r" ∷ codes "unsigned" ∷ []) ms) (λ _.
+    bind (coefficients ms) (λ direct.
+    bind (defaulted (typed as_bool) false (codes "unsigned") ms) (λ unsigned.
+    Ok (of_words unsigned direct)))))
 
 -- what the keys of a device say
 pub record DeviceKeys : Type 0 where
@@ -70,6 +74,7 @@ pub record DeviceKeys : Type 0 where
   pub vout_direct : Option Coefficients
   pub commands : Items
   pub name : Option (List ℕ)
+  pub vid : Option VidParts
 
 -- the keys that may be there, each ruled in its turn, after those that have to be
 abbrev pub other_keys : ℕ → PecMode → Members → Result DeviceKeys FaultKind
@@ -80,6 +85,7 @@ other_keys address pec ms =
     bind (optional coefficients_rule (codes "vout_direct") ms) (λ vout_direct.
     bind (defaulted (typed as_array) no_items (codes "command") ms) (λ commands.
     bind (optional name_rule (codes "name") ms) (λ name.
+    bind (optional (vid_rule pages) (codes "vid") ms) (λ vid.
     Ok (record {
       address = address;
       pec = pec;
@@ -89,7 +95,8 @@ other_keys address pec ms =
       vout_direct = vout_direct;
       commands = commands;
       name = name;
-    })))))))
+      vid = vid;
+    }))))))))
 
 -- each key ruled in its turn, where earlier devices have the addresses `taken`, and those in `ignored`
 -- are none of devices

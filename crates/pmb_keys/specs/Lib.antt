@@ -4,4 +4,6 @@ pub mod CommandView
 pub mod DeviceKeys
 pub mod DeviceKeysView
 pub mod IgnoreRule
+pub mod VidRule
+pub mod VidView
 pub mod machine

@@ -23,6 +23,7 @@ use crate::initial_items::{initial_of, initial_value};
 use crate::kind_keys::read_kind;
 use crate::rules::{find, flag_of, only, table_of};
 use crate::shape_keys::read_shape;
+use crate::unsigned_key::read_unsigned;
 use pmb_command::{Entry, is_fitting};
 use std::alloc::Global;
 use toml::{Table, Value};
@@ -35,7 +36,7 @@ fn only_command_keys(table: &Table) -> Result<(), FaultKind>
         table,
         &[
             "code", "name", "write", "read", "call", "kind", "m", "b", "r", "exponent", "paged",
-            "initial",
+            "initial", "unsigned",
         ],
     )
 }
@@ -50,7 +51,7 @@ fn read_paged(base: bool, table: &Table) -> Result<bool, FaultKind>
     }
 }
 
-/// What the keys of a table but for `initial` say, each ruled in its turn.
+/// What the keys of a table but for `initial` and those after it say, each ruled in its turn.
 fn read_entry(table: &Table) -> Result<Entry, FaultKind>
     ensures read { bind result (λ entry. Ok (entry_parts entry)) ≡ entry_rule (table_view table.now) }
     ensures named { IfOk result (λ e. IsNameOf e.code e.name.bytes) }
@@ -109,8 +110,9 @@ pub fn read_command(
     ensures own_code { IfOk result (λ c. IsNew c.entry.code taken.now) }
 {
     let table = table_of(value)?;
-    let entry = read_entry(table)?;
+    let worded = read_entry(table)?;
     let given = initial_value(table)?;
+    let entry = read_unsigned(worded, table)?;
     check_code(entry.code, taken)?;
     check_form(&entry)?;
     let initial = initial_of(alloc, &entry, pages, given)?;

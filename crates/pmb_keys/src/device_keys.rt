@@ -3,7 +3,7 @@
 //! Its rows: `tests_tasks`, `src/profiles.rt`; `tests/rows/profiles.txt`.
 
 ghost use Rattle.std.specs.Prelude.{◌≡◌, ◌≤◌, true, Ok, IfOk, IfSome, codes, length, nat_eq, option_map};
-ghost use Rattle.pmb_command.specs.Bus.{IsDeviceAddress};
+ghost use Rattle.pmb_command.specs.Bus.{HasTableForEach, IsDeviceAddress};
 ghost use Rattle.pmb_command.specs.Names.{IsDeviceName};
 ghost use Rattle.pmb_command.specs.Parts.{IsNew};
 ghost use Rattle.std.specs.List.{list_any};
@@ -13,12 +13,15 @@ ghost use Rattle.pmb_keys.specs.Rules.{bind, named, typed, required, optional, d
 ghost use Rattle.pmb_keys.specs.CommandRules.{word_rule};
 ghost use Rattle.pmb_keys.specs.DeviceKeys.{address_rule, pec_words, pages_rule, coefficients_rule, device_keys, other_keys};
 ghost use Rattle.pmb_keys.specs.DeviceKeysView.{keys_parts};
+ghost use Rattle.pmb_keys.specs.VidView.{vid_parts};
 
 use crate::device_name::read_name;
 use crate::fault::FaultKind;
 use crate::ignored::Ignored;
 use crate::modes::{Modes, read_modes};
 use crate::rules;
+use crate::unsigned_key::{of_words, read_flag};
+use crate::vid::{VidTables, read_vid};
 use pmb_coefficients::Direct;
 use pmb_command::{Name, PecMode};
 use toml::{Table, Value};
@@ -40,6 +43,8 @@ pub struct DeviceKeys<'a> {
     /// The values of its commands.
     pub commands: &'a [Value],
     pub name: Option<Name>,
+    /// The VID tables of its output voltages.
+    pub vid: Option<VidTables>,
 }
 
 /// The keys of a value's table, where earlier devices have the addresses `taken`, and no device has one
@@ -56,6 +61,7 @@ pub fn read_device_keys<'a>(
     ensures pages { IfOk result (λ k. (1 ≤ k.pages) × (k.pages ≤ 32)) }
     ensures mode_of_each { IfOk result (λ k. length k.modes.items ≡ k.pages) }
     ensures name { IfOk result (λ k. IfSome (option_map (λ n. n.bytes) k.name) IsDeviceName) }
+    ensures tables { IfOk result (λ k. HasTableForEach k.pages (option_map vid_parts k.vid)) }
 {
     device_keys(rules::table_of(value)?, taken, ignored)
 }
@@ -73,6 +79,7 @@ fn device_keys<'a>(
     ensures pages { IfOk result (λ k. (1 ≤ k.pages) × (k.pages ≤ 32)) }
     ensures mode_of_each { IfOk result (λ k. length k.modes.items ≡ k.pages) }
     ensures name { IfOk result (λ k. IfSome (option_map (λ n. n.bytes) k.name) IsDeviceName) }
+    ensures tables { IfOk result (λ k. HasTableForEach k.pages (option_map vid_parts k.vid)) }
 {
     let known = [
         "address",
@@ -83,6 +90,7 @@ fn device_keys<'a>(
         "vout_direct",
         "command",
         "name",
+        "vid",
     ];
     rules::only(table, &known)?;
     let address = address(table, taken, ignored)?;
@@ -98,6 +106,7 @@ fn other_keys(table: &Table, address: u8, pec: PecMode) -> Result<DeviceKeys<'_>
     ensures pages { IfOk result (λ k. (1 ≤ k.pages) × (k.pages ≤ 32)) }
     ensures mode_of_each { IfOk result (λ k. length k.modes.items ≡ k.pages) }
     ensures name { IfOk result (λ k. IfSome (option_map (λ n. n.bytes) k.name) IsDeviceName) }
+    ensures tables { IfOk result (λ k. HasTableForEach k.pages (option_map vid_parts k.vid)) }
 {
     let pages = pages(table)?;
     let modes = read_modes(table, pages)?;
@@ -105,6 +114,7 @@ fn other_keys(table: &Table, address: u8, pec: PecMode) -> Result<DeviceKeys<'_>
     let vout_direct = vout_direct(table)?;
     let commands = commands(table)?;
     let name = read_name(table)?;
+    let vid = read_vid(table, pages)?;
     Ok(DeviceKeys {
         address,
         pec,
@@ -114,6 +124,7 @@ fn other_keys(table: &Table, address: u8, pec: PecMode) -> Result<DeviceKeys<'_>
         vout_direct,
         commands,
         name,
+        vid,
     })
 }
 
@@ -239,8 +250,9 @@ fn coefficients_rule(value: &Value) -> Result<Direct, FaultKind>
     ensures { result ≡ coefficients_rule (view value.now) }
 {
     let table = rules::table_of(value)?;
-    rules::only(table, &["m", "b", "r"])?;
-    rules::coefficients(table)
+    rules::only(table, &["m", "b", "r", "unsigned"])?;
+    let direct = rules::coefficients(table)?;
+    Ok(of_words(read_flag(table)?, direct))
 }
 
 /// The values of the commands: none unless the device has some.

@@ -6,13 +6,16 @@ ghost use Rattle.std.specs.Prelude.{◌≡◌, Ok, codes};
 ghost use Rattle.toml.specs.Data.{get_member};
 ghost use Rattle.toml.specs.View.{table_view};
 ghost use Rattle.pmb_keys.specs.Rules.{bind, defaulted};
-ghost use Rattle.pmb_keys.specs.CommandRules.{word_rule, kind_words, absent_of, plain_kind, kind_rule};
+ghost use Rattle.pmb_keys.specs.CommandRules.{word_rule, kind_words, absent_of, no_coefficients, plain_kind, direct_kind, linear16_kind, kind_rule};
+ghost use Rattle.pmb_value.specs.declared.vout.VoutFormat.TheVariants.{Signed, Unsigned};
 ghost use Rattle.pmb_keys.specs.machine.KindWords.{rule_of};
 
+use crate::exponent_key::required_exponent;
 use crate::fault::FaultKind;
 use crate::rules::{coefficients, find, integer_of, text_of};
 use crate::words::{KindWord, kind_word};
 use pmb_command::Kind;
+use pmb_value::{NumberFormat, Slinear16, Ulinear16, VoutFormat};
 use toml::Table;
 
 /// What the key `kind` says.
@@ -39,23 +42,58 @@ fn refuse_coefficient(table: &Table, key: &str) -> Result<(), FaultKind>
     Err(FaultKind::UnknownKey)
 }
 
+/// Refuses the coefficients of a command with another kind.
+fn refuse_coefficients(table: &Table) -> Result<(), FaultKind>
+    ensures { result ≡ no_coefficients (table_view table.now) }
+{
+    refuse_coefficient(table, "m")?;
+    refuse_coefficient(table, "b")?;
+    refuse_coefficient(table, "r")
+}
+
 /// A kind that goes without coefficients.
 fn plain_kind(kind: Kind, table: &Table) -> Result<Kind, FaultKind>
     ensures { result ≡ plain_kind kind (table_view table.now) }
 {
-    refuse_coefficient(table, "m")?;
-    refuse_coefficient(table, "b")?;
-    refuse_coefficient(table, "r")?;
+    refuse_coefficients(table)?;
     Ok(kind)
 }
 
-/// The kind of a word, with its coefficients.
+/// DIRECT, whose coefficients have to be there.
+fn direct_kind(table: &Table) -> Result<Kind, FaultKind>
+    ensures { result ≡ direct_kind (table_view table.now) }
+{
+    let direct = coefficients(table)?;
+    Ok(Kind::Number(NumberFormat::Word(VoutFormat::Direct(direct))))
+}
+
+/// ULINEAR16, whose exponent has to be there.
+fn unsigned_kind(table: &Table) -> Result<Kind, FaultKind>
+    ensures { result ≡ linear16_kind Unsigned (table_view table.now) }
+{
+    refuse_coefficients(table)?;
+    let exponent = required_exponent(table)?;
+    Ok(Kind::Number(NumberFormat::Word(VoutFormat::Unsigned(Ulinear16::of(exponent)))))
+}
+
+/// SLINEAR16, whose exponent has to be there.
+fn signed_kind(table: &Table) -> Result<Kind, FaultKind>
+    ensures { result ≡ linear16_kind Signed (table_view table.now) }
+{
+    refuse_coefficients(table)?;
+    let exponent = required_exponent(table)?;
+    Ok(Kind::Number(NumberFormat::Word(VoutFormat::Signed(Slinear16::of(exponent)))))
+}
+
+/// The kind of a word, with its coefficients or its exponent.
 fn worded_kind(word: KindWord, table: &Table) -> Result<Kind, FaultKind>
     ensures { result ≡ rule_of word (table_view table.now) }
 {
     match word {
         KindWord::Plain(kind) => plain_kind(kind, table),
-        KindWord::ByCoefficients => Ok(Kind::Direct(coefficients(table)?)),
+        KindWord::ByCoefficients => direct_kind(table),
+        KindWord::UnsignedByExponent => unsigned_kind(table),
+        KindWord::SignedByExponent => signed_kind(table),
     }
 }
 
@@ -63,5 +101,8 @@ fn worded_kind(word: KindWord, table: &Table) -> Result<Kind, FaultKind>
 pub(crate) fn read_kind(base: Kind, table: &Table) -> Result<Kind, FaultKind>
     ensures { result ≡ kind_rule base (table_view table.now) }
 {
-    worded_kind(read_word(base, table)?, table)
+    match read_word(base, table) {
+        Ok(word) => worded_kind(word, table),
+        Err(fault) => Err(fault),
+    }
 }

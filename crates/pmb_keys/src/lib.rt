@@ -26,6 +26,8 @@ mod kind_keys;
 mod modes;
 mod rules;
 mod shape_keys;
+mod unsigned_key;
+mod vid;
 mod words;
 
 pub use command::{Command, Initial};
@@ -35,3 +37,4 @@ pub use fault::FaultKind;
 pub use ignored::{Ignored, read_ignored};
 pub use modes::Modes;
 pub use rules::{array_of, only, present};
+pub use vid::VidTables;

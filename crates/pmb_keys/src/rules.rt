@@ -94,7 +94,7 @@ fn is_among(words: &[&str], text: &str) -> bool
 }
 
 /// Whether a table has no other keys than these.
-fn has_only(table: &Table, known: &[&str]) -> bool
+pub(crate) fn has_only(table: &Table, known: &[&str]) -> bool
     ensures { result ≡ list_all (λ key. list_any (bytes_eq key) (map (λ word. word.now) known.now)) (keys_of (table_view table.now)) }
 {
     table.keys().all(|key| is_among(known, key.as_str()))

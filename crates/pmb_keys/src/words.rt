@@ -8,12 +8,15 @@ ghost use Rattle.pmb_keys.specs.CommandRules.{write_forms, read_forms, call_form
 ghost use Rattle.pmb_keys.specs.machine.KindWords.{rule_of};
 
 use pmb_command::{Form, Kind};
+use pmb_value::{NumberFormat, VidTable};
 
-/// What a kind's word says: a kind, or that coefficients tell the rest.
+/// What a kind's word says: a kind, or that coefficients or an exponent tell the rest.
 #[derive(Clone, Copy)]
 pub(crate) enum KindWord {
     Plain(Kind),
     ByCoefficients,
+    UnsignedByExponent,
+    SignedByExponent,
 }
 
 /// The form that a word of `write` names.
@@ -59,17 +62,33 @@ pub(crate) fn call_form(text: &str) -> Option<Option<Form>>
     }
 }
 
+/// A VID table.
+fn vid_word(table: VidTable) -> KindWord
+    ensures { result ≡ KindWord.Plain (Kind.Number (NumberFormat.Vid table)) }
+{
+    KindWord::Plain(Kind::Number(NumberFormat::Vid(table)))
+}
+
 /// What a word of `kind` says.
 pub(crate) fn kind_word(text: &str) -> Option<KindWord>
     ensures { option_map rule_of result ≡ named kind_words text.now }
 {
     match text {
         "raw" => Some(KindWord::Plain(Kind::Raw)),
-        "linear11" => Some(KindWord::Plain(Kind::Linear11)),
+        "linear11" => Some(KindWord::Plain(Kind::Number(NumberFormat::Linear11))),
         "vout" => Some(KindWord::Plain(Kind::Vout)),
         "vout_signed" => Some(KindWord::Plain(Kind::VoutSigned)),
         "direct" => Some(KindWord::ByCoefficients),
         "status" => Some(KindWord::Plain(Kind::Status)),
+        "half" => Some(KindWord::Plain(Kind::Number(NumberFormat::Half))),
+        "ulinear16" => Some(KindWord::UnsignedByExponent),
+        "slinear16" => Some(KindWord::SignedByExponent),
+        "vid:vr11" => Some(vid_word(VidTable::Vr11)),
+        "vid:vr12" => Some(vid_word(VidTable::Vr12)),
+        "vid:vr13" => Some(vid_word(VidTable::Vr13)),
+        "vid:imvp9" => Some(vid_word(VidTable::Imvp9)),
+        "vid:amd625mv" => Some(vid_word(VidTable::Amd625mv)),
+        "vid:nvidia195mv" => Some(vid_word(VidTable::Nvidia195mv)),
         _ => None,
     }
 }

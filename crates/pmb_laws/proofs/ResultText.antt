@@ -21,7 +21,7 @@ use Rattle.pmb_quantity.specs.declared.quantity.QuantityFault.TheVariants.{Empty
 use Rattle.pmb_request.specs.RequestFault.{fault_text, quantity_fault_name}
 use Rattle.pmb_request.specs.declared.request_fault.RequestFault.{RequestFault}
 use Rattle.pmb_request.specs.declared.request_fault.RequestFault.TheVariants.{Line, Quantity}
-use Rattle.pmb_host.specs.Steps.{ReplyData, AllWritten, AllBytes, OneValue, reply_data}
+use Rattle.pmb_host.specs.Steps.{ReplyData, AllWritten, AllBytes, OneValue, NoQuantity, reply_data}
 use Rattle.pmb_host.specs.declared.step.HostFault.{HostFault}
 use Rattle.pmb_host.specs.declared.step.HostFault.TheVariants as fault
 use Rattle.pmb_host.specs.declared.step.HostStep.{HostStep}
@@ -111,6 +111,7 @@ reply_no_lf : (reply : ReplyData) → no_lf (reply_text reply) ≡ true
 reply_no_lf AllWritten = refl
 reply_no_lf (AllBytes bytes) = bytes_no_lf bytes
 reply_no_lf (OneValue value) = spelling_no_lf value
+reply_no_lf NoQuantity = refl
 
 -- ---- faults
 

@@ -49,6 +49,14 @@ impl Linear11Fixed {
         Ok(Linear11Fixed { exponent })
     }
 
+    /// The exponent, from -16 to 15.
+    pub const fn exponent(&self) -> i8
+        ensures value { result ≡ self.now }
+        ensures kept { IsExponent self.now }
+    {
+        self.exponent
+    }
+
     /// The exponent over -16.
     fn power(&self) -> u32
         ensures value { result ≡ unsigned_abs (self.now +ℤ pos 16) }

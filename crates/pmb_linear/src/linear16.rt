@@ -56,6 +56,14 @@ impl<W: Word> Linear16<W> {
         Ok(Linear16::of(exponent))
     }
 
+    /// The exponent, from -16 to 15.
+    pub const fn exponent(&self) -> i8
+        ensures value { result ≡ self.now }
+        ensures kept { IsExponent self.now }
+    {
+        self.exponent
+    }
+
     /// The format with an exponent in range.
     pub fn of(exponent: i8) -> Linear16<W>
         requires { IsExponent exponent }

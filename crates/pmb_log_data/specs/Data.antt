@@ -2,29 +2,33 @@
 use Rattle.std.specs.Prelude.{ℕ, ◌+◌, ◌*◌, Bool, true, false, if◌then◌else◌, nat_eq, Option, Some, None, Result}
 use Rattle.std.specs.Prelude.{Ok, Err}
 use Rattle.std.specs.Prelude.{List, [], ◌∷◌, ◌++◌, codes}
-use Rattle.pmb_coefficients.specs.Coefficients.{Coefficients}
+use Rattle.pmb_quantity.specs.Fraction.{Fraction}
 use Rattle.pmb_command.specs.declared.entry.Kind.{Kind}
-use Rattle.pmb_command.specs.declared.entry.Kind.TheVariants.{Raw, Linear11, Linear11Fixed, Vout, VoutSigned, Direct}
-use Rattle.pmb_command.specs.declared.entry.Kind.TheVariants.{Status}
+use Rattle.pmb_command.specs.declared.entry.Kind.TheVariants.{Raw, Number, Vout, VoutSigned, Status}
 use Rattle.pmb_command.specs.Entry.{EntryParts}
 use Rattle.pmb_command.specs.Parts.{DeviceParts, device_with}
 use Rattle.pmb_decimal.specs.Decimal.{rounded_text}
-use Rattle.pmb_format.specs.Coding.{Coding, value_of}
-use Rattle.pmb_format.specs.Direct.{direct}
 use Rattle.pmb_json_fields.specs.declared.basis.Basis.{Basis}
 use Rattle.pmb_json_fields.specs.declared.basis.Basis.TheVariants.{Told, Assumed}
 use Rattle.pmb_json_fields.specs.Value.{set_bits}
 use Rattle.pmb_json_text.specs.declared.item_order.ItemOrder.TheVariants.{First}
 use Rattle.pmb_json_objects.specs.Seen.{SeenData, basis_at, entry_of, mode_at, page_at}
-use Rattle.pmb_linear.specs.Linear.{linear11, linear11_fixed}
 use Rattle.pmb_note.specs.Paging.{all_pages}
 use Rattle.pmb_units.specs.Units.{unit_of}
 use Rattle.pmb_unknown_start.specs.declared.mode.KnownMode.{KnownMode}
-use Rattle.pmb_unknown_start.specs.declared.mode.KnownMode.TheVariants.{Known, Unknown, NoPage}
-use Rattle.pmb_value.specs.Vout.{format_of, vout_coding}
-use Rattle.pmb_value.specs.declared.vout.ModeFault.{ModeFault}
-use Rattle.pmb_value.specs.declared.vout.ModeFault.TheVariants.{Relative, Vid, Ieee, NoCoefficients}
-use Rattle.pmb_value.specs.declared.vout.VoutFormat.{VoutFormat}
+use Rattle.pmb_unknown_start.specs.declared.mode.KnownMode.TheVariants.{Known, NoPage}
+use Rattle.pmb_unknown_start.specs.declared.mode.KnownMode.TheVariants as modes
+use Rattle.pmb_value.specs.WordFault.{value_in}
+use Rattle.pmb_value.specs.declared.number_format.NumberFormat.{NumberFormat}
+use Rattle.pmb_value.specs.declared.number_format.WordFault.{WordFault}
+use Rattle.pmb_value.specs.declared.number_format.WordFault.TheVariants.{NotANumber, NoCode, Off}
+use Rattle.pmb_value.specs.declared.sign.Sign.{Sign}
+use Rattle.pmb_value.specs.declared.sign.Sign.TheVariants.{Unsigned, Signed}
+use Rattle.pmb_voltage.specs.Voltage.{VoltagesData, format_under, voltages_of}
+use Rattle.pmb_voltage.specs.declared.voltage.NoVoltage.{NoVoltage}
+use Rattle.pmb_voltage.specs.declared.voltage.NoVoltage.TheVariants.{Unknown, Page, Relative, Coefficients}
+use Rattle.pmb_voltage.specs.declared.voltage.NoVoltage.TheVariants as no_voltage
+use Rattle.pmb_voltage.specs.declared.voltage.VoltageFormat.{VoltageFormat}
 use Rattle.pmb_log_data.specs.Text.{byte_digits, bytes_says, joined}
 
 -- ---- numbers
@@ -33,9 +37,23 @@ abbrev pub unit_says : Option (List ℕ) → List ℕ
 unit_says None = []
 unit_says (Some unit) = codes " " ++ unit
 
+-- why a word has no value
+abbrev pub word_fault_says : WordFault → List ℕ
+word_fault_says NotANumber = codes " (not a number)"
+word_fault_says NoCode = codes " (no VID code)"
+word_fault_says Off = codes " (off)"
+
 -- the nearest decimal with at most that many digits after the point, and the unit
-abbrev pub number_says : ℕ → Option (List ℕ) → Coding → ℕ → List ℕ
-number_says digits unit coding word = rounded_text digits (value_of coding word) ++ unit_says unit
+abbrev pub quantity_says : ℕ → Option (List ℕ) → Fraction → List ℕ
+quantity_says digits unit quantity = rounded_text digits quantity ++ unit_says unit
+
+-- a word without a value as its bytes
+abbrev pub value_says : ℕ → Option (List ℕ) → List ℕ → Result Fraction WordFault → List ℕ
+value_says digits unit bytes (Ok quantity) = quantity_says digits unit quantity
+value_says digits unit bytes (Err fault) = bytes_says bytes ++ word_fault_says fault
+
+abbrev pub number_says : ℕ → Option (List ℕ) → List ℕ → NumberFormat → ℕ → List ℕ
+number_says digits unit bytes format word = value_says digits unit bytes (value_in format word)
 
 -- the word of two bytes, the low one first, by what is said of it; another number of bytes as they are
 abbrev pub of_word : (ℕ → List ℕ) → List ℕ → List ℕ
@@ -46,39 +64,56 @@ of_word says (a ∷ b ∷ c ∷ bytes) = bytes_says (a ∷ b ∷ c ∷ bytes)
 
 -- ---- output voltages
 
-abbrev pub mode_fault_says : ModeFault → List ℕ
-mode_fault_says Relative = codes "relative"
-mode_fault_says Vid = codes "VID"
-mode_fault_says Ieee = codes "half precision"
-mode_fault_says NoCoefficients = codes "DIRECT, no coefficients"
+-- why a VOUT_MODE gives a word no value
+abbrev pub mode_says : ℕ → List ℕ → List ℕ
+mode_says mode why = codes " (VOUT_MODE " ++ byte_digits mode ++ codes " " ++ why ++ codes ")"
+
+-- why no format is that of the selected page
+abbrev pub no_page_says : Option ℕ → List ℕ
+no_page_says None = codes " (no such page)"
+no_page_says (Some page) = if nat_eq page all_pages then codes " (pages differ)" else codes " (no such page)"
+
+-- why a voltage has no format, under a VOUT_MODE
+abbrev pub no_format_says : Option ℕ → ℕ → NoVoltage → List ℕ
+no_format_says page mode Unknown = codes " (PAGE unknown)"
+no_format_says page mode Page = no_page_says page
+no_format_says page mode no_voltage.Vid = mode_says mode (codes "VID")
+no_format_says page mode Relative = mode_says mode (codes "relative")
+no_format_says page mode Coefficients = mode_says mode (codes "DIRECT, no coefficients")
 
 -- a value by a VOUT_MODE that is assumed says so
 abbrev pub basis_says : ℕ → Basis → List ℕ
 basis_says mode Told = []
 basis_says mode Assumed = codes " (VOUT_MODE " ++ byte_digits mode ++ codes " assumed)"
 
--- the bytes of a word, and why its VOUT_MODE gives it no value
-abbrev pub without_value : List ℕ → ℕ → ModeFault → List ℕ
-without_value bytes mode fault =
-    bytes_says bytes ++ codes " (VOUT_MODE " ++ byte_digits mode ++ codes " " ++ mode_fault_says fault ++ codes ")"
+-- a factor of VOUT_COMMAND, or a voltage
+abbrev pub factor_says : ℕ → Option (List ℕ) → Bool → Fraction → List ℕ
+factor_says digits unit true quantity = rounded_text digits quantity ++ codes " of VOUT_COMMAND"
+factor_says digits unit false quantity = quantity_says digits unit quantity
 
-abbrev pub by_mode_says : ℕ → Option (List ℕ) → List ℕ → ℕ → Basis → Result VoutFormat ModeFault → ℕ → List ℕ
-by_mode_says digits unit bytes mode basis (Ok format) word =
-    number_says digits unit (vout_coding format) word ++ basis_says mode basis
-by_mode_says digits unit bytes mode basis (Err fault) word = without_value bytes mode fault
+abbrev pub marked_says : ℕ → Option (List ℕ) → List ℕ → ℕ → Basis → Bool → Result Fraction WordFault → List ℕ
+marked_says digits unit bytes mode basis ratio (Ok quantity) =
+    factor_says digits unit ratio quantity ++ basis_says mode basis
+marked_says digits unit bytes mode basis ratio (Err fault) = bytes_says bytes ++ word_fault_says fault
 
--- why no VOUT_MODE is known to be that of the selected page
-abbrev pub no_page_says : Option ℕ → List ℕ
-no_page_says None = codes " (no such page)"
-no_page_says (Some page) = if nat_eq page all_pages then codes " (pages differ)" else codes " (no such page)"
-
-abbrev pub vout_says : ℕ → Option (List ℕ) → List ℕ → Option ℕ → KnownMode → Basis → Bool → Option Coefficients → ℕ
+-- a word in the format of a voltage, under a VOUT_MODE; its bytes where it has no value
+abbrev pub by_mode_says : ℕ → Option (List ℕ) → List ℕ → Option ℕ → ℕ → Basis → Result VoltageFormat NoVoltage → ℕ
     → List ℕ
-vout_says digits unit bytes page (Known mode) basis signed coefficients word =
-    by_mode_says digits unit bytes mode basis (format_of mode signed coefficients) word
-vout_says digits unit bytes page Unknown basis signed coefficients word =
+by_mode_says digits unit bytes page mode basis (Ok format) word =
+    marked_says digits unit bytes mode basis format.is_ratio (value_in format.number word)
+by_mode_says digits unit bytes page mode basis (Err why) word = bytes_says bytes ++ no_format_says page mode why
+
+-- an output voltage of the command with a code, by what is known of VOUT_MODE
+abbrev pub known_says : ℕ → Option (List ℕ) → List ℕ → VoltagesData → KnownMode → Basis → ℕ → Sign → ℕ → List ℕ
+known_says digits unit bytes voltages (Known mode) basis code sign word =
+    by_mode_says digits unit bytes voltages.page mode basis (format_under voltages mode code sign) word
+known_says digits unit bytes voltages modes.Unknown basis code sign word =
     bytes_says bytes ++ codes " (VOUT_MODE unknown)"
-vout_says digits unit bytes page NoPage basis signed coefficients word = bytes_says bytes ++ no_page_says page
+known_says digits unit bytes voltages NoPage basis code sign word = bytes_says bytes ++ no_page_says voltages.page
+
+abbrev pub vout_says : ℕ → Option (List ℕ) → List ℕ → VoltagesData → Basis → ℕ → Sign → ℕ → List ℕ
+vout_says digits unit bytes voltages basis code sign word =
+    known_says digits unit bytes voltages voltages.mode basis code sign word
 
 -- ---- status bits
 
@@ -101,19 +136,16 @@ status_says code (a ∷ b ∷ c ∷ bytes) = bytes_says (a ∷ b ∷ c ∷ bytes
 
 module _ (seen : SeenData) (addr : ℕ) where
   -- an output voltage of a device, unsigned or signed
-  abbrev pub voltage_says : DeviceParts → Option (List ℕ) → Bool → List ℕ → List ℕ
-  voltage_says device unit signed bytes = of_word
-      (vout_says seen.digits unit bytes (page_at seen addr) (mode_at seen addr) (basis_at seen addr) signed
-      device.vout_direct) bytes
+  abbrev pub voltage_says : DeviceParts → Option (List ℕ) → ℕ → Sign → List ℕ → List ℕ
+  voltage_says device unit code sign bytes = of_word
+      (vout_says seen.digits unit bytes (voltages_of device (mode_at seen addr) (page_at seen addr))
+      (basis_at seen addr) code sign) bytes
 
   abbrev pub kind_says : DeviceParts → Option (List ℕ) → ℕ → Kind → List ℕ → List ℕ
   kind_says device unit code Raw bytes = bytes_says bytes
-  kind_says device unit code Linear11 bytes = of_word (number_says seen.digits unit linear11) bytes
-  kind_says device unit code (Linear11Fixed exponent) bytes =
-      of_word (number_says seen.digits unit (linear11_fixed exponent)) bytes
-  kind_says device unit code Vout bytes = voltage_says device unit false bytes
-  kind_says device unit code VoutSigned bytes = voltage_says device unit true bytes
-  kind_says device unit code (Direct d) bytes = of_word (number_says seen.digits unit (direct d)) bytes
+  kind_says device unit code (Number format) bytes = of_word (number_says seen.digits unit bytes format) bytes
+  kind_says device unit code Vout bytes = voltage_says device unit code Unsigned bytes
+  kind_says device unit code VoutSigned bytes = voltage_says device unit code Signed bytes
   kind_says device unit code Status bytes = status_says code bytes
 
   -- data of a command that the device has, else bytes

@@ -2,4 +2,3 @@ pub mod Appends
 pub mod Text
 pub mod Data
 pub mod Whole
-pub mod machine

@@ -8,7 +8,6 @@ ghost use Rattle.pmb_json_objects.specs.Seen.{SeenData};
 ghost use Rattle.pmb_json_objects.specs.Sees.{Sees};
 ghost use Rattle.pmb_log_data.specs.Data.{data_says, kind_says, voltage_says};
 ghost use Rattle.pmb_log_data.specs.Appends.{Appends};
-ghost use Rattle.pmb_log_data.specs.machine.Signs.{is_signed};
 
 use crate::bits::append_status;
 use crate::seen::{basis, device, mode, page};
@@ -19,7 +18,8 @@ use pmb_command::{Entry, Kind};
 use pmb_json_objects::Seen;
 use pmb_table::DeviceProfile;
 use pmb_units::unit_of;
-use pmb_value::{Linear11, Sign};
+use pmb_value::Sign;
+use pmb_voltage::Voltages;
 
 /// Appends what is read from a device, or written to it, with a command.
 pub fn append_data<const N: usize>(
@@ -74,13 +74,9 @@ fn append_by_kind<const N: usize>(
 {
     match kind {
         Kind::Raw => append_bytes(out, bytes),
-        // A fixed exponent binds the writer alone: every word has its value.
-        Kind::Linear11 | Kind::Linear11Fixed(_) => {
-            append_quantity(out, seen.digits, unit, &Linear11, bytes);
-        }
-        Kind::Vout => append_output(out, seen, addr, device, unit, Sign::Unsigned, bytes),
-        Kind::VoutSigned => append_output(out, seen, addr, device, unit, Sign::Signed, bytes),
-        Kind::Direct(format) => append_quantity(out, seen.digits, unit, &format, bytes),
+        Kind::Number(format) => append_quantity(out, seen.digits, unit, format, bytes),
+        Kind::Vout => append_output(out, seen, addr, device, unit, code, Sign::Unsigned, bytes),
+        Kind::VoutSigned => append_output(out, seen, addr, device, unit, code, Sign::Signed, bytes),
         Kind::Status => append_status(out, code, bytes),
     }
 }
@@ -92,6 +88,7 @@ fn append_output<const N: usize>(
     addr: u8,
     device: &DeviceProfile,
     unit: Option<&'static str>,
+    code: u8,
     sign: Sign,
     bytes: &[u8],
 )
@@ -99,16 +96,20 @@ fn append_output<const N: usize>(
     requires few { length bytes.now ≤ 255 }
     requires room { length out.old.items + 773 ≤ N }
     ensures says { (known : SeenData) → Sees seen.now known
-        → Appends (voltage_says known addr device.now (option_map (λ u. u.now) unit.entry) (is_signed sign) bytes.now) 773 out.old.items out.new.items }
+        → Appends (voltage_says known addr device.now (option_map (λ u. u.now) unit.entry) code sign bytes.now) 773 out.old.items out.new.items }
     ensures longer { length out.new.items ≤ length out.old.items + 773 }
 {
     let reading = Reading {
         digits: seen.digits,
+        code,
         sign,
-        page: page(seen, addr),
-        mode: mode(seen, addr),
+        voltages: Voltages {
+            mode: mode(seen, addr),
+            page: page(seen, addr),
+            coefficients: device.vout_direct(),
+            vid: device.vid(),
+        },
         basis: basis(seen, addr),
-        coefficients: device.vout_direct(),
     };
-    append_voltage(out, reading, unit, bytes);
+    append_voltage(out, &reading, unit, bytes);
 }

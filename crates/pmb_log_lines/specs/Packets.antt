@@ -3,8 +3,7 @@ use Rattle.std.specs.Prelude.{ℕ, Bool, true, false, if◌then◌else◌, nat_e
 use Rattle.std.specs.Prelude.{[], ◌∷◌}
 use Rattle.std.specs.Prelude.{◌++◌, codes, decimal, drop}
 use Rattle.pmb_command.specs.declared.entry.Kind.{Kind}
-use Rattle.pmb_command.specs.declared.entry.Kind.TheVariants.{Raw, Linear11, Linear11Fixed, Vout, VoutSigned, Direct}
-use Rattle.pmb_command.specs.declared.entry.Kind.TheVariants.{Status}
+use Rattle.pmb_command.specs.declared.entry.Kind.TheVariants.{Raw, Number, Vout, VoutSigned, Status}
 use Rattle.pmb_command.specs.Entry.{EntryParts}
 use Rattle.pmb_command.specs.Parts.{DeviceParts, device_with}
 use Rattle.pmb_json_objects.specs.Packets.{is_whole_write, last_byte}
@@ -32,11 +31,9 @@ is_register (a ∷ b ∷ c ∷ bytes) = false
 -- a write to a status register clears bits
 abbrev pub verb_of_kind : Kind → List ℕ → List ℕ
 verb_of_kind Raw bytes = codes "write "
-verb_of_kind Linear11 bytes = codes "write "
-verb_of_kind (Linear11Fixed exponent) bytes = codes "write "
+verb_of_kind (Number format) bytes = codes "write "
 verb_of_kind Vout bytes = codes "write "
 verb_of_kind VoutSigned bytes = codes "write "
-verb_of_kind (Direct d) bytes = codes "write "
 verb_of_kind Status bytes = if is_register bytes then codes "clear " else codes "write "
 
 abbrev pub verb : Option EntryParts → List ℕ → List ℕ

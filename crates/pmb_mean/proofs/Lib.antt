@@ -1,5 +1,6 @@
 pub mod Products
 pub mod Values
+pub mod Equality
 pub mod Takes
 pub mod Sums
 pub mod Standing

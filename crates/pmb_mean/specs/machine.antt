@@ -1,3 +1,3 @@
 -- What private fields hold. No public contract needs more of these than the name `HistoryStandsAt`.
-pub mod Exponents
+pub mod Formats
 pub mod History

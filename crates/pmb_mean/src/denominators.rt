@@ -5,15 +5,16 @@
 ghost use Rattle.std.specs.Prelude.{◌≡◌, ◌^◌, ◌<◌};
 ghost use Rattle.pmb_coefficients.specs.Coefficients.{Coefficients};
 ghost use Rattle.pmb_mean.specs.Numbers.{denominator, same};
+ghost use Rattle.pmb_mean.specs.Words.{denominators_of};
 
 use pmb_format::codes::Codes;
-use pmb_value::Direct;
+use pmb_value::{Direct, NumberFormat, VoutFormat};
 
 /// What the values of a format are fractions over. Values over different denominators are not put
 /// together.
 #[derive(Clone, Copy, Debug, PartialEq, Eq)]
 pub enum Denominators {
-    /// 2^24: LINEAR11, ULINEAR16 and SLINEAR16.
+    /// 2^24: LINEAR11, ULINEAR16, SLINEAR16 and half precision.
     Dyadic,
     /// The slope times ten to R: DIRECT with these coefficients.
     Over(Direct),
@@ -22,6 +23,29 @@ pub enum Denominators {
 }
 
 impl Denominators {
+    /// What a value in a format is a fraction over.
+    pub(crate) fn of(format: &NumberFormat) -> Denominators
+        ensures { result ≡ denominators_of format.now }
+    {
+        match format {
+            NumberFormat::Linear11 | NumberFormat::Linear11Fixed(_) | NumberFormat::Half => {
+                Denominators::Dyadic
+            }
+            NumberFormat::Word(format) => Denominators::of_vout(format),
+            NumberFormat::Vid(_) => Denominators::Vids,
+        }
+    }
+
+    /// The same for a format of output voltages.
+    fn of_vout(format: &VoutFormat) -> Denominators
+        ensures { result ≡ denominators_of (NumberFormat.Word format.now) }
+    {
+        match format {
+            VoutFormat::Unsigned(_) | VoutFormat::Signed(_) => Denominators::Dyadic,
+            VoutFormat::Direct(direct) => Denominators::Over(*direct),
+        }
+    }
+
     /// The denominator: 1 to 2^15 times a billion.
     pub fn denominator(&self) -> u64
         ensures value { result ≡ denominator self.now }

@@ -1,15 +1,16 @@
 //! What is kept of the values of one command on one page: how often it came, how many of its values
 //! rest on an assumed VOUT_MODE, the least, the greatest and the last of them, and their exact mean.
 //!
-//! A [`Number`] is the value of a word in LINEAR11, in DIRECT or in the format that a VOUT_MODE
-//! names. A [`NumberHistory`] takes one after the other, and needs no memory for them: it adds up
-//! their numerators over one denominator. So the mean is exact, and its text is rounded once.
-//! Values over different [`Denominators`] have no mean.
+//! A [`Number`] is the value of a word in a number format. A [`NumberHistory`] takes one after the
+//! other, and needs no memory for them: it adds up their numerators over one denominator. So the
+//! mean is exact, and its text is rounded once. Values over different [`Denominators`] have no mean.
 //!
 //! ```rust
 //! let mut history = NumberHistory::new();
 //! for word in [0xf800, 0xf801, 0xf803] {
-//!     history.see(&Number::linear11(word));
+//!     if let Some(number) = Number::of_word(&NumberFormat::Linear11, word, false) {
+//!         history.see(&number);
+//!     }
 //! }
 //! let mut text = ArrayVec::<u8, 33>::new();
 //! history.append_mean(Digits::default(), &mut text);

@@ -2,9 +2,14 @@
 //!
 //! Its rows: `tests_numbers`, `src/means.rt`.
 
+ghost use Rattle.std.specs.Prelude.{Bool};
+ghost use Rattle.pmb_value.specs.declared.number_format.NumberFormat.{NumberFormat};
+ghost use Rattle.pmb_mean.specs.Numbers.{FitsKind};
+ghost use Rattle.pmb_mean.specs.machine.Formats.{coded_number};
+
 use crate::denominators::Denominators;
 use pmb_format::codes::Codes;
-use pmb_value::{Direct, Format, Linear11, Quantity, Sign, VoutFormat, vout_format};
+use pmb_value::{Half, NumberFormat, Quantity, VoutFormat};
 use std::marker::Model;
 
 /// A value of a command, and whether the VOUT_MODE by which it was read is assumed.
@@ -30,69 +35,22 @@ impl Model for Number {
 impl Number {
     ghost use Rattle.std.specs.Prelude.{◌≡◌, ◌^◌, ◌<◌, unsigned_abs};
     ghost use Rattle.pmb_mean.specs.Numbers.{FitsKind, numerator};
-    ghost use Rattle.pmb_mean.specs.Words.{direct_number, linear11_number, linear_number, voltage_number, vout_number};
-    ghost use Rattle.pmb_mean.specs.machine.Exponents.{HasExponent};
+    ghost use Rattle.pmb_mean.specs.Words.{word_number};
 
-    /// The value of a word in LINEAR11. A fixed exponent binds the writer alone: every word has its
-    /// value.
-    pub fn linear11(word: u16) -> Number
-        ensures { result ≡ linear11_number word }
+    /// The value of a word in a format, and whether the VOUT_MODE that named the format is assumed.
+    /// `None` where the word has no value: in half precision an infinity or no number, in a VID table
+    /// a code without a voltage.
+    pub fn of_word(format: &NumberFormat, word: u16, assumed: bool) -> Option<Number>
+        ensures { result ≡ word_number format.now word assumed }
     {
-        Number::linear(Linear11.decode(word), false)
-    }
-
-    /// The value of a word in DIRECT.
-    pub fn direct(direct: &Direct, word: u16, assumed: bool) -> Number
-        ensures { result ≡ direct_number direct.now word assumed }
-    {
-        // What these two ensure, a number keeps: its numerator is small, its denominator is not 0.
-        let _numerator = direct.numerator(word);
-        let _denominator = direct.denominator();
-        Number {
-            value: direct.decode(word),
-            over: Denominators::Over(*direct),
-            assumed,
-        }
-    }
-
-    /// The value of a word of an output voltage, by a VOUT_MODE and, where it names DIRECT, these
-    /// coefficients. `None` where it names no format.
-    pub fn voltage(
-        mode: u8,
-        sign: Sign,
-        coefficients: Option<Direct>,
-        word: u16,
-        assumed: bool,
-    ) -> Option<Number>
-        ensures { result ≡ voltage_number mode sign coefficients word assumed }
-    {
-        match vout_format(mode, sign == Sign::Signed, coefficients) {
-            Ok(format) => Some(Number::of_vout(&format, word, assumed)),
+        fits_kind(format, word);
+        match format.value(word) {
+            Ok(value) => Some(Number {
+                value,
+                over: Denominators::of(format),
+                assumed,
+            }),
             Err(_) => None,
-        }
-    }
-
-    /// The value of a word in the format of a VOUT_MODE.
-    fn of_vout(format: &VoutFormat, word: u16, assumed: bool) -> Number
-        requires { HasExponent format.now }
-        ensures { result ≡ vout_number format.now word assumed }
-    {
-        match format {
-            VoutFormat::Unsigned(linear) => Number::linear(linear.decode(word), assumed),
-            VoutFormat::Signed(linear) => Number::linear(linear.decode(word), assumed),
-            VoutFormat::Direct(direct) => Number::direct(direct, word, assumed),
-        }
-    }
-
-    /// A value in a linear format.
-    fn linear(value: Quantity, assumed: bool) -> Number
-        requires { FitsKind (linear_number value assumed) }
-        ensures { result ≡ linear_number value assumed }
-    {
-        Number {
-            value,
-            over: Denominators::Dyadic,
-            assumed,
         }
     }
 
@@ -125,5 +83,35 @@ impl Number {
     {
         let times = self.over.denominator() / self.value.den().unsigned_abs();
         self.value.num() * times as i64
+    }
+}
+
+/// The numerator of each word is small, over a denominator that is not 0. It does nothing.
+fn fits_kind(format: &NumberFormat, word: u16)
+    ensures { (assumed : Bool) → FitsKind (coded_number format.now word assumed) }
+{
+    match format {
+        NumberFormat::Linear11 => {}
+        NumberFormat::Linear11Fixed(_) => {}
+        NumberFormat::Word(format) => vout_fits_kind(format, word),
+        NumberFormat::Half => {
+            let _numerator = Half.numerator(word);
+        }
+        NumberFormat::Vid(_) => {}
+    }
+}
+
+/// The same in a format of output voltages.
+fn vout_fits_kind(format: &VoutFormat, word: u16)
+    ensures { (assumed : Bool) → FitsKind (coded_number (NumberFormat.Word format.now) word assumed) }
+{
+    format.keeps_ranges();
+    match format {
+        VoutFormat::Unsigned(_) => {}
+        VoutFormat::Signed(_) => {}
+        VoutFormat::Direct(direct) => {
+            let _numerator = direct.numerator(word);
+            let _denominator = direct.denominator();
+        }
     }
 }

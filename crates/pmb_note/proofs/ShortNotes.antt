@@ -16,10 +16,11 @@ use Rattle.pmb_bus.specs.declared.event.Event.{Event}
 use Rattle.pmb_quantity.specs.Fraction.{Fraction}
 use Rattle.pmb_quantity.specs.QuantityText.{after_point, first_of, magnitude_text, minus, padded, places_of, spelling}
 use Rattle.pmb_coefficients.specs.Coefficients.{Coefficients}
-use Rattle.pmb_format.specs.Coding.{Coding, value_of}
-use Rattle.pmb_format.specs.Direct.{direct}
-use Rattle.pmb_linear.specs.Linear.{linear11, linear11_fixed}
-use Rattle.pmb_value.specs.Vout.{format_of, vout_coding}
+use Rattle.pmb_value.specs.WordFault.{value_in}
+use Rattle.pmb_value.specs.declared.number_format.NumberFormat.{NumberFormat}
+use Rattle.pmb_value.specs.declared.number_format.NumberFormat.TheVariants.{Word}
+use Rattle.pmb_value.specs.declared.number_format.WordFault.{WordFault}
+use Rattle.pmb_value.specs.Vout.{format_of}
 use Rattle.pmb_value.specs.declared.vout.ModeFault.{ModeFault}
 use Rattle.pmb_value.specs.declared.vout.VoutFormat.{VoutFormat}
 use Rattle.pmb_command.specs.Bus.{IsBus, IsCommand, IsDevice}
@@ -28,12 +29,12 @@ use Rattle.pmb_command.specs.Names.{is_name_byte, IsNameOf}
 use Rattle.pmb_command.specs.Parts.{CommandParts, DeviceParts, command_with, device_with}
 use Rattle.pmb_command.specs.StatusBits.{bit_text}
 use Rattle.pmb_command.specs.declared.entry.Kind.{Kind}
-use Rattle.pmb_command.specs.declared.entry.Kind.TheVariants.{Raw, Linear11, Linear11Fixed, Vout, VoutSigned, Direct}
-use Rattle.pmb_command.specs.declared.entry.Kind.TheVariants.{Status}
+use Rattle.pmb_command.specs.declared.entry.Kind.TheVariants.{Raw, Number, Vout, VoutSigned, Status}
 use Rattle.pmb_transaction.specs.Packet.{Packet}
 use Rattle.pmb_transaction.specs.Transaction.{PartData, TransactionData, Write, Read, Call, Refused, Alert, NoAlert}
 use Rattle.pmb_transaction.proofs.Known.{command_is, device_is}
-use Rattle.pmb_note.specs.Note.{command_text, data_text, format_text, joined, named_bit, of_command, of_device, of_word}
+use Rattle.pmb_note.specs.Note.{command_text, data_text, format_text, joined, named_bit, number_text, of_command}
+use Rattle.pmb_note.specs.Note.{of_device, of_word}
 use Rattle.pmb_note.specs.Note.{part_text_before, part_text, quantity_text, refused_text, register_text, set_bit_text}
 use Rattle.pmb_note.specs.Note.{set_bits_text, status_text, text_under, value_text, vout_text}
 use Rattle.pmb_note.proofs.OneLine.{no_lf, no_lf-append, no_lf-at}
@@ -155,15 +156,19 @@ short_spelling q =
     (short_minus q.numerator)
     (short_magnitude (unsigned_abs q.numerator) q.denominator (places_of q.denominator) (few_places q.denominator))
 
-short_quantity : (coding : Coding) (word : ℕ) → IsShort 131 (quantity_text coding word)
-short_quantity coding word = both 1 130 (codes " ") (spelling (value_of coding word)) (plain (codes " ") refl)
-    (short_spelling (value_of coding word))
-
 short_raw : IsShort 131 (codes " raw")
 short_raw = at_most 4 131 (codes " raw") (omega arith) (plain (codes " raw") refl)
 
+short_quantity : (value : Result Fraction WordFault) → IsShort 131 (quantity_text value)
+short_quantity (Ok q) = both 1 130 (codes " ") (spelling q) (plain (codes " ") refl) (short_spelling q)
+short_quantity (Err fault) = short_raw
+
+short_number : (format : NumberFormat) (word : ℕ) → IsShort 131 (number_text format word)
+unfolding number_text
+short_number format word = short_quantity (value_in format word)
+
 short_format : (format : Result VoutFormat ModeFault) (word : ℕ) → IsShort 131 (format_text format word)
-short_format (Ok format) word = short_quantity (vout_coding format) word
+short_format (Ok format) word = short_number (Word format) word
 short_format (Err fault) word = short_raw
 
 short_vout : (mode : Option ℕ) (signed : Bool) (coefficients : Option Coefficients) (word : ℕ)
@@ -226,15 +231,11 @@ short_status code (a ∷ b ∷ c ∷ bytes) = none 288
 short_data : (coefficients : Option Coefficients) (mode : Option ℕ) (code : ℕ) (kind : Kind) (bytes : List ℕ)
     → IsShort 288 (data_text coefficients mode code kind bytes)
 short_data coefficients mode code Raw bytes = none 288
-short_data coefficients mode code Linear11 bytes = short_word (quantity_text linear11) bytes (short_quantity linear11)
-short_data coefficients mode code (Linear11Fixed exponent) bytes =
-    short_word (quantity_text (linear11_fixed exponent)) bytes (short_quantity (linear11_fixed exponent))
+short_data coefficients mode code (Number format) bytes = short_word (number_text format) bytes (short_number format)
 short_data coefficients mode code Vout bytes = short_word (vout_text mode false coefficients) bytes
     (short_vout mode false coefficients)
 short_data coefficients mode code VoutSigned bytes = short_word (vout_text mode true coefficients) bytes
     (short_vout mode true coefficients)
-short_data coefficients mode code (Direct d) bytes = short_word (quantity_text (direct d)) bytes
-    (short_quantity (direct d))
 short_data coefficients mode code Status bytes = short_status code bytes
 
 name_byte_no_lf : (b : ℕ) → is_name_byte b ≡ true → not (b == 10) ≡ true

@@ -5,15 +5,16 @@ use Rattle.std.specs.Prelude.{Some, None, Result, Ok, Err, List, [], ◌∷◌, 
 use Rattle.hex.specs.Hex.{encode_lower}
 use Rattle.pmb_quantity.specs.QuantityText.{spelling}
 use Rattle.pmb_coefficients.specs.Coefficients.{Coefficients}
-use Rattle.pmb_format.specs.Coding.{Coding, value_of}
-use Rattle.pmb_format.specs.Direct.{direct}
-use Rattle.pmb_linear.specs.Linear.{linear11, linear11_fixed}
-use Rattle.pmb_value.specs.Vout.{format_of, vout_coding}
+use Rattle.pmb_quantity.specs.Fraction.{Fraction}
+use Rattle.pmb_value.specs.Vout.{format_of}
+use Rattle.pmb_value.specs.WordFault.{value_in}
+use Rattle.pmb_value.specs.declared.number_format.NumberFormat.{NumberFormat}
+use Rattle.pmb_value.specs.declared.number_format.NumberFormat.TheVariants.{Word}
+use Rattle.pmb_value.specs.declared.number_format.WordFault.{WordFault}
 use Rattle.pmb_value.specs.declared.vout.ModeFault.{ModeFault}
 use Rattle.pmb_value.specs.declared.vout.VoutFormat.{VoutFormat}
 use Rattle.pmb_command.specs.declared.entry.Kind.{Kind}
-use Rattle.pmb_command.specs.declared.entry.Kind.TheVariants.{Raw, Linear11, Linear11Fixed, Vout, VoutSigned, Direct}
-use Rattle.pmb_command.specs.declared.entry.Kind.TheVariants.{Status}
+use Rattle.pmb_command.specs.declared.entry.Kind.TheVariants.{Raw, Number, Vout, VoutSigned, Status}
 use Rattle.pmb_command.specs.Entry.{EntryParts}
 use Rattle.pmb_command.specs.Parts.{CommandParts, DeviceParts, command_with, device_with}
 use Rattle.pmb_command.specs.StatusBits.{bit_text}
@@ -29,13 +30,18 @@ of_word text (a ∷ []) = []
 of_word text (low ∷ high ∷ []) = text (low + 256 * high)
 of_word text (a ∷ b ∷ c ∷ bytes) = []
 
--- the exact value of a word
-abbrev pub quantity_text : Coding → ℕ → List ℕ
-quantity_text coding word = codes " " ++ spelling (value_of coding word)
+-- an exact value
+abbrev pub quantity_text : Result Fraction WordFault → List ℕ
+quantity_text (Ok quantity) = codes " " ++ spelling quantity
+quantity_text (Err fault) = codes " raw"
+
+-- that of a word, where it has one
+unfoldable pub number_text : NumberFormat → ℕ → List ℕ
+number_text format word = quantity_text (value_in format word)
 
 -- .. in the format that VOUT_MODE names, if it names one
 abbrev pub format_text : Result VoutFormat ModeFault → ℕ → List ℕ
-format_text (Ok format) word = quantity_text (vout_coding format) word
+format_text (Ok format) word = number_text (Word format) word
 format_text (Err fault) word = codes " raw"
 
 -- an output voltage by VOUT_MODE, where that is known
@@ -78,12 +84,9 @@ status_text code (a ∷ b ∷ c ∷ bytes) = []
 -- what is said of a command's data by its kind, under a VOUT_MODE
 abbrev pub data_text : Option Coefficients → Option ℕ → ℕ → Kind → List ℕ → List ℕ
 data_text coefficients mode code Raw bytes = []
-data_text coefficients mode code Linear11 bytes = of_word (quantity_text linear11) bytes
-data_text coefficients mode code (Linear11Fixed exponent) bytes =
-    of_word (quantity_text (linear11_fixed exponent)) bytes
+data_text coefficients mode code (Number format) bytes = of_word (number_text format) bytes
 data_text coefficients mode code Vout bytes = of_word (vout_text mode false coefficients) bytes
 data_text coefficients mode code VoutSigned bytes = of_word (vout_text mode true coefficients) bytes
-data_text coefficients mode code (Direct d) bytes = of_word (quantity_text (direct d)) bytes
 data_text coefficients mode code Status bytes = status_text code bytes
 
 -- a command that is written or read: its name, and what is said of its data

@@ -109,8 +109,7 @@ impl<'p> Context<'p> {
     {
         match kind {
             Kind::Vout | Kind::VoutSigned => self.kept_mode(addr),
-            Kind::Raw | Kind::Linear11 | Kind::Linear11Fixed(_) | Kind::Direct(_) | Kind::Status =>
-                None,
+            Kind::Raw | Kind::Number(_) | Kind::Status => None,
         }
     }
 

@@ -2,10 +2,10 @@
 //!
 //! Its rows: `tests_lines`, `src/notes/rows.rt`; `tests/rows/captures.txt`.
 
-ghost use Rattle.std.specs.Prelude.{◌≡◌, ◌+◌, ◌*◌, ◌≤◌, ◌<◌, length, option_map};
+ghost use Rattle.std.specs.Prelude.{◌≡◌, ◌+◌, ◌*◌, ◌≤◌, ◌<◌, Ok, length, option_map};
 ghost use Rattle.pmb_command.specs.Entry.{entry_parts};
 ghost use Rattle.pmb_command.specs.Bus.{IsEntry};
-ghost use Rattle.pmb_note.specs.Note.{data_text, format_text, of_word, quantity_text, value_text, vout_text};
+ghost use Rattle.pmb_note.specs.Note.{data_text, number_text, of_word, quantity_text, value_text, vout_text};
 ghost use Rattle.pmb_note.specs.machine.Written.{Appends, is_signed};
 
 use crate::status::append_status;
@@ -13,7 +13,7 @@ use crate::text::append;
 use arrayvec::ArrayVec;
 use pmb_command::{Entry, Kind};
 use pmb_table::DeviceProfile;
-use pmb_value::{Format, Linear11, Sign, vout_format};
+use pmb_value::{NumberFormat, Quantity, Sign, vout_format};
 
 /// Appends what a command that is written or read says: its name, and what its kind tells of the
 /// data. Where it is an output voltage, `mode` is the VOUT_MODE to read it by, if that is known.
@@ -46,19 +46,17 @@ fn append_data<const N: usize>(
 {
     match kind {
         Kind::Raw => {}
-        // A fixed exponent binds the writer alone: every word has its value.
-        Kind::Linear11 | Kind::Linear11Fixed(_) => append_quantity(out, &Linear11, bytes),
+        Kind::Number(format) => append_quantity(out, format, bytes),
         Kind::Vout => append_voltage(out, mode, Sign::Unsigned, device, bytes),
         Kind::VoutSigned => append_voltage(out, mode, Sign::Signed, device, bytes),
-        Kind::Direct(format) => append_quantity(out, &format, bytes),
         Kind::Status => append_status(out, code, bytes),
     }
 }
 
 // Appends the value of two bytes in a format; nothing for another number of bytes.
-fn append_quantity<F: Format, const N: usize>(out: &mut ArrayVec<u8, N>, format: &F, bytes: &[u8])
+fn append_quantity<const N: usize>(out: &mut ArrayVec<u8, N>, format: NumberFormat, bytes: &[u8])
     requires { length out.old.items + 46 ≤ N }
-    ensures { Appends (of_word (quantity_text (F.coding format.now)) bytes.now) 46 out.old.items out.new.items }
+    ensures { Appends (of_word (number_text format) bytes.now) 46 out.old.items out.new.items }
 {
     match bytes {
         [low, high] => append_decoded(out, format, u16::from_le_bytes([*low, *high])),
@@ -66,13 +64,25 @@ fn append_quantity<F: Format, const N: usize>(out: &mut ArrayVec<u8, N>, format:
     }
 }
 
-// Appends the value of a word in a format.
-fn append_decoded<F: Format, const N: usize>(out: &mut ArrayVec<u8, N>, format: &F, word: u16)
+// Appends the value of a word in a format, or that it has none.
+#[tactic(auto, unfolding(crate::specs::Note::number_text))]
+fn append_decoded<const N: usize>(out: &mut ArrayVec<u8, N>, format: NumberFormat, word: u16)
     requires { length out.old.items + 46 ≤ N }
-    ensures { Appends (quantity_text (F.coding format.now) word) 46 out.old.items out.new.items }
+    ensures { Appends (number_text format word) 46 out.old.items out.new.items }
+{
+    match format.value(word) {
+        Ok(quantity) => append_value_text(out, &quantity),
+        Err(_) => append(out, " raw"),
+    }
+}
+
+// Appends a value.
+fn append_value_text<const N: usize>(out: &mut ArrayVec<u8, N>, quantity: &Quantity)
+    requires { length out.old.items + 46 ≤ N }
+    ensures { Appends (quantity_text (Ok quantity.now)) 46 out.old.items out.new.items }
 {
     append(out, " ");
-    append(out, format.decode(word).text().as_str());
+    append(out, quantity.text().as_str());
 }
 
 // Appends an output voltage of two bytes, or that it can't be told; nothing for another number of
@@ -109,7 +119,7 @@ fn append_word<const N: usize>(
         return;
     };
     match vout_format(mode, sign == Sign::Signed, device.vout_direct()) {
-        Ok(format) => append_decoded(out, &format, word),
+        Ok(format) => append_decoded(out, NumberFormat::Word(format), word),
         Err(_) => append(out, " raw"),
     }
 }

@@ -1,10 +1,8 @@
 -- What a fact tells of a spot.
-use Rattle.std.specs.Prelude.{ℕ, ◌+◌, ◌*◌, Bool, true, false, Option, Some, None, List, [], ◌∷◌, ◌++◌, flat_map, fold}
+use Rattle.std.specs.Prelude.{ℕ, ◌+◌, ◌*◌, Bool, true, false, if◌then◌else◌, Option, Some, None, Result, Ok, Err, List, [], ◌∷◌, ◌++◌, flat_map, fold}
 use Rattle.std.specs.List.{filter_map}
-use Rattle.pmb_coefficients.specs.Coefficients.{Coefficients}
 use Rattle.pmb_command.specs.declared.entry.Kind.{Kind}
-use Rattle.pmb_command.specs.declared.entry.Kind.TheVariants.{Raw, Linear11, Linear11Fixed, Vout}
-use Rattle.pmb_command.specs.declared.entry.Kind.TheVariants.{VoutSigned, Direct, Status}
+use Rattle.pmb_command.specs.declared.entry.Kind.TheVariants.{Raw, Number, Vout, VoutSigned, Status}
 use Rattle.pmb_command.specs.Entry.{EntryParts}
 use Rattle.pmb_command.specs.Parts.{DeviceParts, device_with}
 use Rattle.pmb_facts.specs.Fact.{FactData, WhatData, Write, Read, Call, Refused, Alert, NoAlert, Other, Refusal}
@@ -14,12 +12,12 @@ use Rattle.pmb_json_fields.specs.declared.basis.Basis.TheVariants.{Told, Assumed
 use Rattle.pmb_json_objects.specs.Seen.{SeenData, basis_at, entry_of, mode_at, page_at}
 use Rattle.pmb_keeper.specs.Setting.{Setting, seen_after}
 use Rattle.pmb_mean.specs.Numbers.{NumberData}
-use Rattle.pmb_mean.specs.Words.{direct_number, linear11_number, voltage_number}
+use Rattle.pmb_mean.specs.Words.{word_number as mean_number}
 use Rattle.pmb_stats_bits.specs.Bits.{RegisterRead}
-use Rattle.pmb_unknown_start.specs.declared.mode.KnownMode.{KnownMode}
-use Rattle.pmb_unknown_start.specs.declared.mode.KnownMode.TheVariants.{Known, Unknown, NoPage}
-use Rattle.pmb_value.specs.declared.sign.Sign.{Sign}
 use Rattle.pmb_value.specs.declared.sign.Sign.TheVariants.{Signed, Unsigned}
+use Rattle.pmb_voltage.specs.Voltage.{VoltagesData, voltage_format, voltages_of}
+use Rattle.pmb_voltage.specs.declared.voltage.NoVoltage.{NoVoltage}
+use Rattle.pmb_voltage.specs.declared.voltage.VoltageFormat.{VoltageFormat}
 use Rattle.pmb_observed.specs.declared.spot.Spot.{Spot}
 use Rattle.pmb_observed.specs.Observed.{Observation, NumberAt, ReadAt}
 use Rattle.pmb_observed.specs.Spot.{page_key, spot_at}
@@ -30,28 +28,26 @@ abbrev pub is_assumed : Basis → Bool
 is_assumed Told = false
 is_assumed Assumed = true
 
--- an output voltage by VOUT_MODE, where that is known and the pages share one
-abbrev pub voltage : KnownMode → Basis → Sign → Option Coefficients → ℕ → Option NumberData
-voltage (Known mode) basis sign coefficients word = voltage_number mode sign coefficients word (is_assumed basis)
-voltage Unknown basis sign coefficients word = None
-voltage NoPage basis sign coefficients word = None
+-- a word in the format of an output voltage; a factor of VOUT_COMMAND is no voltage
+abbrev pub voltage_in : Result VoltageFormat NoVoltage → Basis → ℕ → Option NumberData
+voltage_in (Ok format) basis word =
+    if format.is_ratio then None else mean_number format.number word (is_assumed basis)
+voltage_in (Err why) basis word = None
 
--- a word, by the command's kind
-abbrev pub word_number : KnownMode → Basis → Option Coefficients → Kind → ℕ → Option NumberData
-word_number mode basis coefficients Raw word = None
-word_number mode basis coefficients Linear11 word = Some (linear11_number word)
-word_number mode basis coefficients (Linear11Fixed exponent) word = Some (linear11_number word)
-word_number mode basis coefficients Vout word = voltage mode basis Unsigned coefficients word
-word_number mode basis coefficients VoutSigned word = voltage mode basis Signed coefficients word
-word_number mode basis coefficients (Direct d) word = Some (direct_number d word false)
-word_number mode basis coefficients Status word = None
+-- a word, by the kind of the command with a code
+abbrev pub word_number : VoltagesData → Basis → ℕ → Kind → ℕ → Option NumberData
+word_number voltages basis code Raw word = None
+word_number voltages basis code (Number format) word = mean_number format word false
+word_number voltages basis code Vout word = voltage_in (voltage_format voltages code Unsigned) basis word
+word_number voltages basis code VoutSigned word = voltage_in (voltage_format voltages code Signed) basis word
+word_number voltages basis code Status word = None
 
 -- two bytes, the low one first; nothing for another number of bytes
-abbrev pub number_of : KnownMode → Basis → Option Coefficients → Kind → List ℕ → Option NumberData
-number_of mode basis coefficients kind [] = None
-number_of mode basis coefficients kind (a ∷ []) = None
-number_of mode basis coefficients kind (low ∷ high ∷ []) = word_number mode basis coefficients kind (low + 256 * high)
-number_of mode basis coefficients kind (a ∷ b ∷ c ∷ bytes) = None
+abbrev pub number_of : VoltagesData → Basis → ℕ → Kind → List ℕ → Option NumberData
+number_of voltages basis code kind [] = None
+number_of voltages basis code kind (a ∷ []) = None
+number_of voltages basis code kind (low ∷ high ∷ []) = word_number voltages basis code kind (low + 256 * high)
+number_of voltages basis code kind (a ∷ b ∷ c ∷ bytes) = None
 
 -- ---- status registers
 
@@ -68,11 +64,9 @@ register_of (a ∷ b ∷ c ∷ bytes) time = None
 -- what is read of a status register alone
 abbrev pub register_read : Kind → List ℕ → Option (List ℕ) → Option RegisterRead
 register_read Raw bytes time = None
-register_read Linear11 bytes time = None
-register_read (Linear11Fixed exponent) bytes time = None
+register_read (Number format) bytes time = None
 register_read Vout bytes time = None
 register_read VoutSigned bytes time = None
-register_read (Direct d) bytes time = None
 register_read Status bytes time = register_of bytes time
 
 -- ---- what is told
@@ -93,7 +87,8 @@ module _ (seen : SeenData) (addr code : ℕ) where
   -- data that are read or written
   abbrev pub number_seen : DeviceParts → EntryParts → List ℕ → List Observation
   number_seen device entry bytes = number_at (spot_of device entry)
-      (number_of (mode_at seen addr) (basis_at seen addr) device.vout_direct entry.kind bytes)
+      (number_of (voltages_of device (mode_at seen addr) (page_at seen addr)) (basis_at seen addr) code entry.kind
+      bytes)
 
   -- .. that are read
   abbrev pub register_seen : DeviceParts → EntryParts → List ℕ → Option (List ℕ) → List Observation

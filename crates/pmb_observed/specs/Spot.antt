@@ -3,8 +3,7 @@ use Rattle.std.specs.Prelude.{ℕ, ◌==◌, nat_lt, ◌&&◌, Bool, true, false
 use Rattle.std.specs.Prelude.{[], ◌∷◌, ◌++◌, map}
 use Rattle.std.specs.List.{range_with_len}
 use Rattle.pmb_command.specs.declared.entry.Kind.{Kind}
-use Rattle.pmb_command.specs.declared.entry.Kind.TheVariants.{Raw, Linear11, Linear11Fixed, Vout}
-use Rattle.pmb_command.specs.declared.entry.Kind.TheVariants.{VoutSigned, Direct, Status}
+use Rattle.pmb_command.specs.declared.entry.Kind.TheVariants.{Raw, Number, Vout, VoutSigned, Status}
 use Rattle.pmb_command.specs.Entry.{EntryParts}
 use Rattle.pmb_command.specs.Parts.{DeviceParts, device_with}
 use Rattle.pmb_json_objects.specs.Seen.{entry_of}
@@ -80,20 +79,16 @@ entry_on profile spot = entry_in (device_with spot.addr profile) spot
 
 abbrev pub is_register : Kind → Bool
 is_register Raw = false
-is_register Linear11 = false
-is_register (Linear11Fixed exponent) = false
+is_register (Number format) = false
 is_register Vout = false
 is_register VoutSigned = false
-is_register (Direct d) = false
 is_register Status = true
 
 abbrev pub is_numeric : Kind → Bool
 is_numeric Raw = false
-is_numeric Linear11 = true
-is_numeric (Linear11Fixed exponent) = true
+is_numeric (Number format) = true
 is_numeric Vout = true
 is_numeric VoutSigned = true
-is_numeric (Direct d) = true
 is_numeric Status = false
 
 abbrev pub is_of : (Kind → Bool) → Option EntryParts → Bool

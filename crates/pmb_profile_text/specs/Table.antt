@@ -2,14 +2,16 @@
 -- keys and a table of its commands.
 use Rattle.std.specs.Prelude.{ℕ, ◌+◌, ◌-◌, ◌*◌, Bool, false, not, ◌&&◌, if◌then◌else◌, Option, Some, None, List, []}
 use Rattle.std.specs.Prelude.{◌∷◌, ◌++◌, bytes_eq, codes, decimal, length, nat_eq, replicate, slice_index}
-use Rattle.std.specs.List.{flat_map, list_any, range_with_len}
-use Rattle.pmb_coefficients.specs.Coefficients.{Coefficients}
+use Rattle.std.specs.List.{flat_map, list_all, list_any, range_with_len}
+use Rattle.std.specs.Option.{is_some}
 use Rattle.pmb_command.specs.declared.form.Form.{Form}
 use Rattle.pmb_command.specs.Fitting.{register_form}
-use Rattle.pmb_command.specs.Parts.{CommandParts, DeviceParts, all_same}
+use Rattle.pmb_command.specs.Parts.{CommandParts, DeviceParts, VidParts, OfPages, OfTypes, all_same}
 use Rattle.pmb_registers.specs.State.{first_bytes, first_mode}
 use Rattle.pmb_profile_text.specs.Words.{addresses_word, bytes_word, digits, form_word, kind_word, mode_words}
-use Rattle.pmb_profile_text.specs.Words.{page_word, paged_word, pec_word, vout_direct_word}
+use Rattle.pmb_profile_text.specs.Words.{page_word, paged_word, pec_word, type_word, vout_direct_word}
+use Rattle.pmb_vid.specs.Names.{same_table, table_name}
+use Rattle.pmb_vid.specs.declared.table.VidTable.{VidTable}
 
 -- ---- rows
 
@@ -126,12 +128,12 @@ device_head place device =
     ++ field (codes "pages") (decimal device.pages)))))
 
 -- a VOUT_MODE, and the format that it gives output voltages
-abbrev pub mode_text : Option Coefficients → ℕ → List ℕ
-mode_text coefficients mode = digits mode ++ (codes ", " ++ mode_words mode coefficients)
+abbrev pub mode_text : DeviceParts → ℕ → List ℕ
+mode_text device mode = digits mode ++ (codes ", " ++ mode_words device mode)
 
 -- the line of VOUT_MODE where all pages begin with one
 abbrev pub one_mode : DeviceParts → List ℕ
-one_mode device = field (codes "vout_mode") (mode_text device.vout_direct (first_mode device 0))
+one_mode device = field (codes "vout_mode") (mode_text device (first_mode device 0))
 
 -- the key of a page's line, which only that of page 0 has
 abbrev pub mode_key : ℕ → List ℕ
@@ -140,19 +142,51 @@ mode_key page = if nat_eq page 0 then codes "vout_mode" else []
 -- the line of a page's VOUT_MODE
 abbrev pub mode_line : DeviceParts → ℕ → List ℕ
 mode_line device page =
-    field (mode_key page)
-    (page_word page ++ mode_text device.vout_direct (first_mode device page))
+    field (mode_key page) (page_word page ++ mode_text device (first_mode device page))
 
 -- the lines of VOUT_MODE at first: one for each page where they differ
 abbrev pub mode_lines : DeviceParts → List ℕ
 mode_lines device =
     if all_same device.modes then one_mode device else flat_map (mode_line device) (range_with_len 0 device.pages)
 
+-- The lines of the VID tables of pages, from a page on. The key stands in the first line alone.
+abbrev pub page_lines : List ℕ → ℕ → List VidTable → List ℕ
+page_lines key page [] = []
+page_lines key page (table ∷ tables) =
+    field key (page_word page ++ table_name table) ++ page_lines [] (page + 1) tables
+
+-- those of a device: one where all pages have one table
+abbrev pub page_tables : List VidTable → List ℕ
+page_tables [] = []
+page_tables (table ∷ tables) =
+    if list_all (same_table table) tables then field (codes "vid") (table_name table)
+    else page_lines (codes "vid") 0 (table ∷ tables)
+
+-- The lines of the types that have a VID table, from a type on. The key stands in the first line alone.
+abbrev pub type_lines : List ℕ → ℕ → List (Option VidTable) → List ℕ
+type_lines key number [] = []
+type_lines key number (None ∷ tables) = type_lines key (number + 1) tables
+type_lines key number (Some table ∷ tables) =
+    field key (type_word number ++ table_name table) ++ type_lines [] (number + 1) tables
+
+-- those of a device, or that no type has a table
+abbrev pub type_tables : List (Option VidTable) → List ℕ
+type_tables tables =
+    if list_any is_some tables then type_lines (codes "vid") 0 tables
+    else field (codes "vid") (codes "no types")
+
+-- the lines of a device's VID tables, where the profile tells them
+abbrev pub vid_lines : Option VidParts → List ℕ
+vid_lines None = []
+vid_lines (Some (OfPages tables)) = page_tables tables
+vid_lines (Some (OfTypes tables)) = type_tables tables
+
 -- the last keys of a device
 abbrev pub device_end : DeviceParts → List ℕ
 device_end device =
     field (codes "vout_direct") (vout_direct_word device.vout_direct)
-    ++ field (codes "commands") (decimal (length device.commands))
+    ++ (vid_lines device.vid
+    ++ field (codes "commands") (decimal (length device.commands)))
 
 -- the keys of a device
 abbrev pub device_keys : ℕ → DeviceParts → List ℕ

@@ -23,7 +23,7 @@ pub(crate) fn bus_head(profile: &BusProfile) -> Row
 
 /// Appends the addresses that speak no PMBus, where the profile has the key: at most 400 bytes.
 fn append_ignored(head: &mut Row, profile: &BusProfile)
-    requires { length head.old.items + 400 ≤ 1024 }
+    requires { length head.old.items + 400 ≤ 2048 }
     ensures { head.new.items ≡ head.old.items ++ ignore_line profile.now.ignored }
 {
     match profile.ignored() {
@@ -35,7 +35,7 @@ fn append_ignored(head: &mut Row, profile: &BusProfile)
 /// Appends the line of some addresses.
 fn append_line(head: &mut Row, addresses: &[u8])
     requires few { length addresses.now ≤ 128 }
-    requires room { length head.old.items + 400 ≤ 1024 }
+    requires room { length head.old.items + 400 ≤ 2048 }
     ensures { head.new.items ≡ head.old.items ++ ignore_line (Some addresses.now) }
 {
     append_cell(head, b"ignore", KEYS);
@@ -46,7 +46,7 @@ fn append_line(head: &mut Row, addresses: &[u8])
 /// Appends addresses, with a space between two, or that there are none: at most 384 bytes.
 fn append_addresses(head: &mut Row, addresses: &[u8])
     requires few { length addresses.now ≤ 128 }
-    requires room { length head.old.items + 384 ≤ 1024 }
+    requires room { length head.old.items + 384 ≤ 2048 }
     ensures text { head.new.items ≡ head.old.items ++ addresses_word addresses.now }
     ensures short { length head.new.items ≤ length head.old.items + 384 }
 {
@@ -61,7 +61,7 @@ fn append_addresses(head: &mut Row, addresses: &[u8])
 
 /// Appends addresses, with a space before each: three bytes each.
 fn append_others(head: &mut Row, addresses: &[u8])
-    requires { length head.old.items + 3 * length addresses.now ≤ 1024 }
+    requires { length head.old.items + 3 * length addresses.now ≤ 2048 }
     ensures text { head.new.items ≡ head.old.items ++ flat_map (λ other. codes " " ++ digits other) addresses.now }
     ensures long { length head.new.items ≡ length head.old.items + 3 * length addresses.now }
 {

@@ -47,7 +47,7 @@ fn command_cells(entry: &Entry) -> Row
     append_cell(&mut row, form_word(entry.shape.read), 6);
     append_cell(&mut row, form_word(entry.shape.call), 6);
     append_cell(&mut row, paged_word(entry.paged), 6);
-    append_cell(&mut row, kind_word(entry.kind).as_slice(), 26);
+    append_cell(&mut row, kind_word(&entry.kind).as_slice(), 26);
     row
 }
 

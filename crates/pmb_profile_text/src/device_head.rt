@@ -7,6 +7,7 @@ ghost use Rattle.pmb_profile_text.specs.Table.{address_text, device_end, device_
 ghost use Rattle.pmb_profile_text.specs.Words.{digits};
 
 use crate::row::{Row, append, append_byte, append_cell, append_number};
+use crate::vid::append_vid;
 use crate::words::{pec_word, vout_direct_word};
 use pmb_table::DeviceProfile;
 use pmb_table::laws::accepted_device;
@@ -35,13 +36,14 @@ pub(crate) fn device_end(device: &DeviceProfile) -> Row
     let mut end = Row::new();
     let vout_direct = vout_direct_word(device.vout_direct());
     append_field(&mut end, b"vout_direct", vout_direct.as_slice());
+    append_vid(&mut end, device);
     append_count(&mut end, b"commands", device.len());
     end
 }
 
 /// Appends the line of a device's name, where it has one.
 fn append_name(head: &mut Row, device: &DeviceProfile)
-    requires { length head.old.items + 45 ≤ 1024 }
+    requires { length head.old.items + 45 ≤ 2048 }
     ensures text { head.new.items ≡ head.old.items ++ name_line device.now.name }
     ensures short { length head.new.items ≤ length head.old.items + 45 }
 {
@@ -53,10 +55,10 @@ fn append_name(head: &mut Row, device: &DeviceProfile)
 }
 
 /// Appends a key and its value: at most 45 bytes.
-fn append_field(head: &mut Row, key: &[u8], value: &[u8])
+pub(crate) fn append_field(head: &mut Row, key: &[u8], value: &[u8])
     requires key { length key.now ≤ 12 }
     requires value { length value.now ≤ 32 }
-    requires room { length head.old.items + 45 ≤ 1024 }
+    requires room { length head.old.items + 45 ≤ 2048 }
     ensures text { head.new.items ≡ head.old.items ++ field key.now value.now }
     ensures short { length head.new.items ≤ length head.old.items + 45 }
 {
@@ -68,7 +70,7 @@ fn append_field(head: &mut Row, key: &[u8], value: &[u8])
 /// Appends a key whose value is a number: at most 45 bytes.
 pub(crate) fn append_count(head: &mut Row, key: &[u8], count: usize)
     requires key { length key.now ≤ 12 }
-    requires room { length head.old.items + 45 ≤ 1024 }
+    requires room { length head.old.items + 45 ≤ 2048 }
     ensures text { head.new.items ≡ head.old.items ++ field key.now (decimal count) }
     ensures short { length head.new.items ≤ length head.old.items + 45 }
 {
@@ -80,7 +82,7 @@ pub(crate) fn append_count(head: &mut Row, key: &[u8], count: usize)
 /// Appends the line of an address, with the bytes in which the direction follows it.
 fn append_address(head: &mut Row, address: u8)
     requires seven_bits { address < 128 }
-    requires room { length head.old.items + 60 ≤ 1024 }
+    requires room { length head.old.items + 60 ≤ 2048 }
     ensures text { head.new.items ≡ head.old.items ++ field (codes "address") (address_text address) }
     ensures short { length head.new.items ≤ length head.old.items + 60 }
 {

@@ -16,7 +16,7 @@ use pmb_table::DeviceProfile;
 /// Appends what a command's register holds at first on a page, or a hyphen where it has none: at
 /// most 510 bytes.
 pub(crate) fn append_first(row: &mut Row, device: &DeviceProfile, page: u8, entry: &Entry)
-    requires { length row.old.items + 510 ≤ 1024 }
+    requires { length row.old.items + 510 ≤ 2048 }
     ensures text { (command : CommandParts) → command_with entry.now.code device.now.commands ≡ Some command → command.entry.shape ≡ entry.now.shape
         → row.new.items ≡ row.old.items ++ first_word device.now page command (register_form command.entry.shape) }
     ensures short { length row.new.items ≤ length row.old.items + 510 }
@@ -29,7 +29,7 @@ pub(crate) fn append_first(row: &mut Row, device: &DeviceProfile, page: u8, entr
 
 /// Appends the digits of bytes, or that there are none.
 fn append_bytes(row: &mut Row, bytes: &[u8])
-    requires room { length row.old.items + 510 ≤ 1024 }
+    requires room { length row.old.items + 510 ≤ 2048 }
     requires few { length bytes.now ≤ 255 }
     ensures text { row.new.items ≡ row.old.items ++ bytes_word bytes.now }
     ensures short { length row.new.items ≤ length row.old.items + 510 }

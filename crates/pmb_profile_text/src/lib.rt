@@ -20,6 +20,7 @@ mod first_bytes;
 mod modes;
 mod pages;
 mod row;
+mod vid;
 mod words;
 
 pub use bus::describe;

@@ -12,7 +12,6 @@ ghost use Rattle.pmb_registers.specs.State.{first_mode};
 use crate::device_head::KEYS;
 use crate::row::{Row, append, append_byte, append_cell, append_page};
 use crate::words::append_mode;
-use pmb_coefficients::Direct;
 use pmb_registers::first_mode;
 use pmb_table::DeviceProfile;
 
@@ -39,7 +38,7 @@ pub(crate) fn one_mode(device: &DeviceProfile) -> Row
 {
     let mut line = Row::new();
     append_cell(&mut line, b"vout_mode", KEYS);
-    append_mode_text(&mut line, device.vout_direct(), first_mode(device, 0));
+    append_mode_text(&mut line, device, first_mode(device, 0));
     append(&mut line, b"\n");
     line
 }
@@ -51,7 +50,7 @@ pub(crate) fn mode_line(device: &DeviceProfile, page: u8) -> Row
     let mut line = Row::new();
     append_cell(&mut line, mode_key(page), KEYS);
     append_page(&mut line, page);
-    append_mode_text(&mut line, device.vout_direct(), first_mode(device, page));
+    append_mode_text(&mut line, device, first_mode(device, page));
     append(&mut line, b"\n");
     line
 }
@@ -64,13 +63,13 @@ fn mode_key(page: u8) -> &'static [u8]
     if page == 0 { b"vout_mode" } else { b"" }
 }
 
-/// Appends a VOUT_MODE, and the format that it gives output voltages: at most 64 bytes.
-fn append_mode_text(line: &mut Row, coefficients: Option<Direct>, mode: u8)
-    requires { length line.old.items + 64 ≤ 1024 }
-    ensures text { line.new.items ≡ line.old.items ++ mode_text coefficients mode }
-    ensures short { length line.new.items ≤ length line.old.items + 64 }
+/// Appends a VOUT_MODE, and the format that it gives output voltages: at most 104 bytes.
+fn append_mode_text(line: &mut Row, device: &DeviceProfile, mode: u8)
+    requires { length line.old.items + 104 ≤ 2048 }
+    ensures text { line.new.items ≡ line.old.items ++ mode_text device.now mode }
+    ensures short { length line.new.items ≤ length line.old.items + 104 }
 {
     append_byte(line, mode);
     append(line, b", ");
-    append_mode(line, mode, coefficients);
+    append_mode(line, device, mode);
 }

@@ -10,7 +10,7 @@ use arrayvec::ArrayVec;
 use itoa::{Buffer, Integer};
 
 /// A row with its LF, or a few lines.
-pub(crate) type Row = ArrayVec<u8, 1024>;
+pub(crate) type Row = ArrayVec<u8, 2048>;
 
 /// Appends a text, for which there must be room.
 pub(crate) fn append<const N: usize>(row: &mut ArrayVec<u8, N>, text: &[u8])
@@ -40,7 +40,7 @@ pub(crate) fn digits_of(byte: u8) -> [u8; 2]
 
 /// Appends the two digits of a byte.
 pub(crate) fn append_byte(row: &mut Row, byte: u8)
-    requires { length row.old.items + 2 ≤ 1024 }
+    requires { length row.old.items + 2 ≤ 2048 }
     ensures text { row.new.items ≡ row.old.items ++ digits byte }
     ensures long { length row.new.items ≡ length row.old.items + 2 }
 {
@@ -50,7 +50,7 @@ pub(crate) fn append_byte(row: &mut Row, byte: u8)
 /// Appends a text, and spaces after it up to the width of its column. The text is no longer than that.
 pub(crate) fn append_cell(row: &mut Row, text: &[u8], width: usize)
     requires fits { length text.now ≤ width }
-    requires room { length row.old.items + width ≤ 1024 }
+    requires room { length row.old.items + width ≤ 2048 }
     ensures text { row.new.items ≡ row.old.items ++ cell width text.now }
     ensures long { length row.new.items ≡ length row.old.items + width }
 {
@@ -60,7 +60,7 @@ pub(crate) fn append_cell(row: &mut Row, text: &[u8], width: usize)
 
 /// Appends that many spaces.
 pub(crate) fn append_spaces(row: &mut Row, count: usize)
-    requires { length row.old.items + count ≤ 1024 }
+    requires { length row.old.items + count ≤ 2048 }
     ensures text { row.new.items ≡ row.old.items ++ replicate count space }
     ensures long { length row.new.items ≡ length row.old.items + count }
 {
@@ -71,7 +71,7 @@ pub(crate) fn append_spaces(row: &mut Row, count: usize)
 
 /// Appends which page is spoken of: at most 10 bytes.
 pub(crate) fn append_page(row: &mut Row, page: u8)
-    requires { length row.old.items + 10 ≤ 1024 }
+    requires { length row.old.items + 10 ≤ 2048 }
     ensures text { row.new.items ≡ row.old.items ++ page_word page }
     ensures short { length row.new.items ≤ length row.old.items + 10 }
 {

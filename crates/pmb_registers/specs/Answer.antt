@@ -9,8 +9,11 @@ use Rattle.std.specs.Int.{w8, w16, cast_unsigned, to_le_bytes}
 use Rattle.std.specs.Option.{unwrap_or}
 use Rattle.pmb_coefficients.specs.Coefficients.{Coefficients}
 use Rattle.pmb_command.specs.declared.entry.Kind.{Kind}
-use Rattle.pmb_command.specs.declared.entry.Kind.TheVariants.{Raw, Linear11, Linear11Fixed, Vout, VoutSigned, Direct}
-use Rattle.pmb_command.specs.declared.entry.Kind.TheVariants.{Status}
+use Rattle.pmb_command.specs.declared.entry.Kind.TheVariants.{Raw, Number, Vout, VoutSigned, Status}
+use Rattle.pmb_value.specs.declared.number_format.NumberFormat.{NumberFormat}
+use Rattle.pmb_value.specs.declared.number_format.NumberFormat.TheVariants as formats
+use Rattle.pmb_value.specs.declared.vout.VoutFormat.{VoutFormat}
+use Rattle.pmb_value.specs.declared.vout.VoutFormat.TheVariants.{Unsigned, Signed, Direct}
 use Rattle.pmb_command.specs.Fitting.{register_form}
 use Rattle.pmb_command.specs.Parts.{CommandParts, DeviceParts, command_with}
 use Rattle.pmb_registers.specs.declared.cml_bit.CmlBit.{CmlBit}
@@ -29,15 +32,26 @@ abbrev pub is_paged : Option CommandParts → Bool
 is_paged None = false
 is_paged (Some command) = has_pages command
 
+-- the coefficients of a format, where it is DIRECT
+abbrev pub coefficients_of_word : VoutFormat → Option Coefficients
+coefficients_of_word (Unsigned exponent) = None
+coefficients_of_word (Signed exponent) = None
+coefficients_of_word (Direct coefficients) = Some coefficients
+
+abbrev pub coefficients_of_format : NumberFormat → Option Coefficients
+coefficients_of_format formats.Linear11 = None
+coefficients_of_format (formats.Linear11Fixed exponent) = None
+coefficients_of_format (formats.Word format) = coefficients_of_word format
+coefficients_of_format formats.Half = None
+coefficients_of_format (formats.Vid table) = None
+
 -- The coefficients of a command's numbers: the command's own where they are in DIRECT, the device's
 -- where they are output voltages and it has some. Numbers of another kind have none.
 abbrev pub coefficients_of_kind : Option Coefficients → Kind → Option Coefficients
 coefficients_of_kind vout Raw = None
-coefficients_of_kind vout Linear11 = None
-coefficients_of_kind vout (Linear11Fixed exponent) = None
+coefficients_of_kind vout (Number format) = coefficients_of_format format
 coefficients_of_kind vout Vout = vout
 coefficients_of_kind vout VoutSigned = vout
-coefficients_of_kind vout (Direct coefficients) = Some coefficients
 coefficients_of_kind vout Status = None
 
 abbrev pub coefficients_of : DeviceParts → ℕ → Option Coefficients

@@ -4,11 +4,13 @@
 
 ghost use Rattle.std.specs.Prelude.{◌≡◌};
 ghost use Rattle.pmb_registers.specs.Answer.{answer_coefficients, coefficient_bytes, coefficients_of};
+ghost use Rattle.pmb_registers.specs.Answer.{coefficients_of_format, coefficients_of_word};
 
 use crate::cml_bit::CmlBit;
 use pmb_coefficients::Direct;
 use pmb_command::Kind;
 use pmb_table::DeviceProfile;
+use pmb_value::{NumberFormat, VoutFormat};
 
 /// The coefficients of a command's numbers, where they are in DIRECT, or an output voltage that may
 /// be.
@@ -16,10 +18,33 @@ fn coefficients_of(device: &DeviceProfile, code: u8) -> Option<Direct>
     ensures { result ≡ coefficients_of device.now code }
 {
     let entry = device.entry(code)?;
-    match entry.kind {
-        Kind::Direct(direct) => Some(direct),
+    match &entry.kind {
+        Kind::Number(format) => coefficients_of_format(format),
         Kind::Vout | Kind::VoutSigned => device.vout_direct(),
-        Kind::Raw | Kind::Linear11 | Kind::Linear11Fixed(_) | Kind::Status => None,
+        Kind::Raw | Kind::Status => None,
+    }
+}
+
+/// The coefficients of a format, where it is DIRECT.
+fn coefficients_of_format(format: &NumberFormat) -> Option<Direct>
+    ensures { result ≡ coefficients_of_format format.now }
+{
+    match format {
+        NumberFormat::Word(format) => coefficients_of_word(format),
+        NumberFormat::Linear11
+        | NumberFormat::Linear11Fixed(_)
+        | NumberFormat::Half
+        | NumberFormat::Vid(_) => None,
+    }
+}
+
+/// The coefficients of a format for output voltages, where it is DIRECT.
+fn coefficients_of_word(format: &VoutFormat) -> Option<Direct>
+    ensures { result ≡ coefficients_of_word format.now }
+{
+    match format {
+        VoutFormat::Direct(direct) => Some(*direct),
+        VoutFormat::Unsigned(_) | VoutFormat::Signed(_) => None,
     }
 }
 

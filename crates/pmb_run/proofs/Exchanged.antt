@@ -28,15 +28,16 @@ use Rattle.pmb_devices.proofs.ReplyForms.{called_taken, read_taken}
 use Rattle.pmb_writer.specs.Invalid.{HasPacket, forms_at}
 use Rattle.pmb_writer.proofs.Packets.{forms_are}
 use Rattle.pmb_value.specs.declared.number_format.NumberFormat.{NumberFormat}
-use Rattle.pmb_value.specs.NumberFormat.{number_coding}
-use Rattle.pmb_format.specs.Coding.{value_of}
+use Rattle.pmb_value.specs.declared.number_format.WordFault.{WordFault}
+use Rattle.pmb_value.specs.WordFault.{value_in}
+use Rattle.pmb_quantity.specs.Fraction.{Fraction}
 use Rattle.pmb_host.specs.declared.step.HostStep.{HostStep}
 use Rattle.pmb_host.specs.declared.step.HostStep.TheVariants.{Done, Failed}
 use Rattle.pmb_host.specs.declared.step.HostFault.TheVariants as faults
 use Rattle.pmb_host.specs.declared.step.Reply.{Reply}
-use Rattle.pmb_host.specs.declared.step.Reply.TheVariants.{Written, Bytes, Value}
+use Rattle.pmb_host.specs.declared.step.Reply.TheVariants.{Written, Bytes, Value, NoValue}
 use Rattle.pmb_host.specs.Signals.{reply_form}
-use Rattle.pmb_host.specs.Steps.{reply_data}
+use Rattle.pmb_host.specs.Steps.{reply_data, told_word}
 use Rattle.pmb_host.specs.Task.{replied, word_bytes}
 use Rattle.pmb_exchange.specs.Exchange.{EndsWith, Exchanges, IsAnswered, IsReplyTold, IsTaken, WritesNoPage, answered}
 use Rattle.pmb_exchange.specs.Exchange.{part_refused, read_refused, written}
@@ -93,6 +94,11 @@ word_of (a ∷ b ∷ []) two small =
     (word, cc (low, high))
 word_of (a ∷ b ∷ c ∷ more) two small = absurd (omega (arith, two))
 
+-- what a word is worth is told by a reply
+told_by : (told : Result Fraction WordFault) → (reply : Reply) × (reply_data reply ≡ told_word told)
+told_by (Ok value) = (Value value, refl)
+told_by (Err fault) = (NoValue, refl)
+
 -- a reply is told as its bytes, or as a value
 telling : (number : Option NumberFormat) (form : Form) (reply : List ℕ) → Fits form reply
     → ((format : NumberFormat) → number ≡ Some format → form ≡ Two)
@@ -100,7 +106,8 @@ telling : (number : Option NumberFormat) (form : Form) (reply : List ℕ) → Fi
 telling None form reply fits two = (Bytes (record { items = reply }), IsReplyTold.bytes refl refl)
 telling (Some format) form reply fits two =
     let word = word_of reply (subst (λ (f : Form). Takes f (length reply)) (two format refl) fits.taken) fits.small in
-    (Value (value_of (number_coding format) word.0), IsReplyTold.value format word.0 refl word.1 refl)
+    let told = told_by (value_in format word.0) in
+    (told.0, IsReplyTold.value format word.0 refl word.1 told.1)
 
 -- ---- the end of an exchange
 

@@ -9,9 +9,10 @@ use Rattle.std.specs.List.{AllByRecursion, IsDistinct, find}
 use Rattle.std.specs.Option.{option_and_then}
 use Rattle.std.proofs.lemmas.Bool.{cases_lt}
 use Rattle.pmb_command.specs.Entry.{EntryParts}
-use Rattle.pmb_command.specs.Parts.{CommandParts, DeviceParts, HaveOwnCodes, command_with, device_with, initial_on}
+use Rattle.pmb_command.specs.Bus.{KeepsRanges}
+use Rattle.pmb_command.specs.Parts.{CommandParts, DeviceParts, HaveOwnCodes, command_with, initial_on}
 use Rattle.pmb_command.specs.Wire.{AreByteValues}
-use Rattle.pmb_host.specs.Requests.{KindMakesFormat, MakeFormats}
+use Rattle.pmb_host.specs.Requests.{MakeFormats}
 use Rattle.pmb_run.specs.Kept.{AreKeptDevices, IsKeptCommand, IsKeptDevice}
 
 -- what holds at each place holds of all
@@ -67,7 +68,7 @@ found_there (x ∷ cs) (suc k) c own is =
     rw other (found_there cs k c own.1 is)
 
 module _ (cs : List CommandParts) (k : ℕ) (own : HaveOwnCodes cs) (entry : EntryParts)
-    (kind : KindMakesFormat entry.kind)
+    (kind : KeepsRanges entry.kind)
     (small : (page : ℕ) → page < 32
     → IfSome (option_and_then (λ (c : CommandParts). initial_on page c.initial) (command_with entry.code cs))
     AreByteValues) where
@@ -79,7 +80,7 @@ module _ (cs : List CommandParts) (k : ℕ) (own : HaveOwnCodes cs) (entry : Ent
       let found : command_with entry.code cs ≡ Some c = ap (λ (e : EntryParts). command_with e.code cs) entry_is
       ∙ found_there cs k c own is in
       record {
-        kind = subst (λ (e : EntryParts). KindMakesFormat e.kind) entry_is kind;
+        kind = subst (λ (e : EntryParts). KeepsRanges e.kind) entry_is kind;
         initial = λ page few. subst (λ (o : Option CommandParts).
             IfSome (option_and_then (λ (d : CommandParts). initial_on page d.initial) o) AreByteValues) found
             (small page few);
@@ -115,17 +116,8 @@ found_has P test (x ∷ xs) all = found_if P (test x) x (find test xs) all.0 (fo
 
 -- ---- formats
 
--- The coefficients of a profile make formats.
+-- The coefficients of a profile's output voltages make formats.
 pub make_formats : (profile : List DeviceParts) → AreKeptDevices profile → MakeFormats profile
-make_formats profile kept = record {
-  vout = λ address device known. (device_kept address device known).vout;
-  commands = λ address code device command known has.
-      let found = found_has IsKeptCommand (λ (c : CommandParts). nat_eq c.entry.code code) device.commands
-      (device_kept address device known).commands in
-      (subst (λ (o : Option CommandParts). IfSome o IsKeptCommand) has found).kind;
-}
-  where
-    device_kept : (address : ℕ) (device : DeviceParts) → device_with address profile ≡ Some device → IsKeptDevice device
-    device_kept address device known =
-        subst (λ (o : Option DeviceParts). IfSome o IsKeptDevice) known
-        (found_has IsKeptDevice (λ (d : DeviceParts). nat_eq d.address address) profile kept)
+make_formats profile kept address device known =
+    (subst (λ (o : Option DeviceParts). IfSome o IsKeptDevice) known
+    (found_has IsKeptDevice (λ (d : DeviceParts). nat_eq d.address address) profile kept)).vout

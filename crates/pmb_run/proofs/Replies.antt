@@ -10,16 +10,21 @@ use Rattle.std.specs.List.{find}
 use Rattle.std.specs.Option.{option_and_then, unwrap_or}
 use Rattle.pmb_coefficients.specs.Coefficients.{Coefficients, MakeFormat}
 use Rattle.pmb_command.specs.declared.entry.Kind.{Kind}
-use Rattle.pmb_command.specs.declared.entry.Kind.TheVariants.{Raw, Linear11, Linear11Fixed, Vout, VoutSigned, Direct}
-use Rattle.pmb_command.specs.declared.entry.Kind.TheVariants.{Status}
+use Rattle.pmb_command.specs.declared.entry.Kind.TheVariants.{Raw, Number, Vout, VoutSigned, Status}
+use Rattle.pmb_value.specs.NumberFormat.{IsFormat, IsVoutFormat}
+use Rattle.pmb_value.specs.declared.number_format.NumberFormat.{NumberFormat}
+use Rattle.pmb_value.specs.declared.number_format.NumberFormat.TheVariants as formats
+use Rattle.pmb_value.specs.declared.vout.VoutFormat.{VoutFormat}
+use Rattle.pmb_value.specs.declared.vout.VoutFormat.TheVariants.{Unsigned, Signed, Direct}
+use Rattle.pmb_command.specs.Bus.{KeepsRanges}
 use Rattle.pmb_command.specs.Parts.{CommandParts, DeviceParts, command_with}
 use Rattle.pmb_command.specs.Wire.{AreByteValues}
 use Rattle.pmb_registers.specs.declared.cml_bit.CmlBit.{CmlBit}
 use Rattle.pmb_registers.specs.declared.cml_bit.CmlBit.TheVariants.{BadCommand, BadValue}
 use Rattle.pmb_registers.specs.Answer.{all_pages, answer, answer_coefficients, answer_of_page, coefficient_bytes}
-use Rattle.pmb_registers.specs.Answer.{coefficients_of, coefficients_of_kind, coefficients_reply, is_paged}
+use Rattle.pmb_registers.specs.Answer.{coefficients_of, coefficients_of_format, coefficients_of_kind}
+use Rattle.pmb_registers.specs.Answer.{coefficients_of_word, coefficients_reply, is_paged}
 use Rattle.pmb_registers.specs.State.{DeviceState, RegisterData, is_of_page}
-use Rattle.pmb_host.specs.Requests.{KindMakesFormat}
 use Rattle.pmb_run.specs.Kept.{IsKeptCommand, IsKeptDevice}
 use Rattle.pmb_run.proofs.KeptParts.{found_has}
 use Rattle.pmb_run.proofs.States.{HoldsBytes, IsGood}
@@ -63,14 +68,26 @@ found_bytes : (o : Option RegisterData) → IfSome o HoldsBytes
 found_bytes None holds = tt
 found_bytes (Some r) holds = holds
 
-kind_formats : (vout : Option Coefficients) (kind : Kind) → IfSome vout MakeFormat → KindMakesFormat kind
+-- the coefficients of a format in its ranges make a format
+word_formats : (format : VoutFormat) → IsVoutFormat format → IfSome (coefficients_of_word format) MakeFormat
+word_formats (Unsigned exponent) is = tt
+word_formats (Signed exponent) is = tt
+word_formats (Direct d) is = is
+
+format_formats : (format : NumberFormat) → IsFormat format → IfSome (coefficients_of_format format) MakeFormat
+format_formats formats.Linear11 is = tt
+format_formats (formats.Linear11Fixed exponent) is = tt
+format_formats (formats.Word format) is = word_formats format is
+format_formats formats.Half is = tt
+format_formats (formats.Vid table) is = tt
+
+-- so do those of a command's numbers
+kind_formats : (vout : Option Coefficients) (kind : Kind) → IfSome vout MakeFormat → KeepsRanges kind
     → IfSome (coefficients_of_kind vout kind) MakeFormat
 kind_formats vout Raw make is = tt
-kind_formats vout Linear11 make is = tt
-kind_formats vout (Linear11Fixed exponent) make is = tt
+kind_formats vout (Number format) make is = format_formats format is
 kind_formats vout Vout make is = make
 kind_formats vout VoutSigned make is = make
-kind_formats vout (Direct d) make is = is
 kind_formats vout Status make is = tt
 
 command_formats : (vout : Option Coefficients) (o : Option CommandParts) → IfSome vout MakeFormat

@@ -1,15 +1,14 @@
 -- What a host tells of the end of its request is one text. For the laws `one_running` and
--- `ended_lines_come_first`. A reply is told as its bytes, or as the value of the one word that two
--- bytes are; a refusal by the leg and the byte, which the transaction says.
+-- `ended_lines_come_first`. A reply is told as its bytes, or as what the one word that two bytes
+-- are is worth; a refusal by the leg and the byte, which the transaction says.
 use Rattle.std.proofs.Common.{◌≡◌, ◌/◌, ◌%◌, ℕ, Bool, true, false, Option, Some, List, sym, ap, ◌∙◌, arith}
-use Rattle.pmb_format.specs.Coding.{value_of}
 use Rattle.pmb_transaction.specs.Transaction.{PartData, TransactionData, Write, Read, Call, Refused, Alert, NoAlert}
 use Rattle.pmb_value.specs.declared.number_format.NumberFormat.{NumberFormat}
 use Rattle.pmb_host.specs.declared.step.HostStep.{HostStep}
 use Rattle.pmb_host.specs.declared.step.HostStep.TheVariants.{Done}
 use Rattle.pmb_host.specs.declared.step.Reply.{Reply}
-use Rattle.pmb_value.specs.NumberFormat.{number_coding}
-use Rattle.pmb_host.specs.Steps.{ReplyData, OneValue, reply_data}
+use Rattle.pmb_value.specs.WordFault.{value_in}
+use Rattle.pmb_host.specs.Steps.{ReplyData, reply_data, told_word}
 use Rattle.pmb_host.specs.Task.{word_bytes}
 use Rattle.pmb_exchange.specs.Exchange.{EndsWith, IsReplyTold, RefusedAt, bytes, value}
 use Rattle.pmb_run.specs.Answer.{end_text, reply_text}
@@ -31,8 +30,8 @@ one_told number reply a b (value format word some reply_is is) (value other agai
     let formats : Some format ≡ Some other = sym some ∙ also in
     let format_is : format ≡ other = cc formats in
     let word_is : word ≡ again = same_word word again (sym reply_is ∙ other_is) in
-    is ∙ ap (λ (it : NumberFormat). OneValue (value_of (number_coding it) word)) format_is
-    ∙ ap (λ (w : ℕ). OneValue (value_of (number_coding other) w)) word_is ∙ sym told
+    is ∙ ap (λ (it : NumberFormat). told_word (value_in it word)) format_is
+    ∙ ap (λ (w : ℕ). told_word (value_in other w)) word_is ∙ sym told
 
 -- the text of a reply
 done_text : (step : HostStep) (reply : Reply) → step ≡ Done reply → end_text step ≡ reply_text (reply_data reply)

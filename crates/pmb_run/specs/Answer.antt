@@ -28,7 +28,7 @@ use Rattle.pmb_host.specs.declared.step.HostFault.TheVariants as fault
 use Rattle.pmb_host.specs.declared.step.HostStep.{HostStep}
 use Rattle.pmb_host.specs.declared.step.HostStep.TheVariants.{Send, Done, Failed}
 use Rattle.pmb_host.specs.Rules.{IsAllowed, IsFault}
-use Rattle.pmb_host.specs.Steps.{ReplyData, AllWritten, AllBytes, OneValue, reply_data}
+use Rattle.pmb_host.specs.Steps.{ReplyData, AllWritten, AllBytes, OneValue, NoQuantity, reply_data}
 use Rattle.pmb_host.specs.Task.{task_of}
 use Rattle.pmb_exchange.specs.Exchange.{EndsWith, Exchanges}
 
@@ -49,6 +49,7 @@ abbrev pub reply_text : ReplyData → List ℕ
 reply_text AllWritten = codes "done"
 reply_text (AllBytes bytes) = bytes_text bytes
 reply_text (OneValue value) = spelling value
+reply_text NoQuantity = codes "raw"
 
 -- where a byte was refused
 abbrev pub place_text : ℕ → ℕ → Bool → List ℕ

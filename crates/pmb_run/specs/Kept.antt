@@ -2,14 +2,14 @@
 use Rattle.std.specs.Prelude.{ℕ, ◌<◌, IfSome, List}
 use Rattle.std.specs.List.{AllByRecursion}
 use Rattle.pmb_coefficients.specs.Coefficients.{MakeFormat}
+use Rattle.pmb_command.specs.Bus.{KeepsRanges}
 use Rattle.pmb_command.specs.Parts.{CommandParts, DeviceParts, initial_on}
 use Rattle.pmb_command.specs.Wire.{AreByteValues}
-use Rattle.pmb_host.specs.Requests.{KindMakesFormat}
 
--- The coefficients of a command in DIRECT make a format (PMBus Part II 1.3 section 7.4), and the values
--- that the profile gives its register on a page are bytes. There are 32 pages at most.
+-- The number format of a command has an exponent or coefficients in their ranges, and the values that
+-- the profile gives its register on a page are bytes. There are 32 pages at most.
 pub record IsKeptCommand (command : CommandParts) : Type 0 where
-  pub kind : KindMakesFormat command.entry.kind
+  pub kind : KeepsRanges command.entry.kind
   pub initial : (page : ℕ) → page < 32 → IfSome (initial_on page command.initial) AreByteValues
 
 -- So it is with each command of a device, and the coefficients of its output voltage make a format.

@@ -4,9 +4,9 @@ ghost use Rattle.std.specs.Prelude.{◌<◌, ℕ, slice_get, IfSome};
 ghost use Rattle.std.specs.List.{AllByRecursion};
 ghost use Rattle.std.specs.Option.{option_and_then};
 ghost use Rattle.pmb_coefficients.specs.Coefficients.{MakeFormat};
+ghost use Rattle.pmb_command.specs.Bus.{KeepsRanges};
 ghost use Rattle.pmb_command.specs.Parts.{command_with, initial_on};
 ghost use Rattle.pmb_command.specs.Wire.{AreByteValues};
-ghost use Rattle.pmb_host.specs.Requests.{KindMakesFormat};
 ghost use Rattle.pmb_run.specs.Kept.{AreKeptDevices, IsKeptCommand, IsKeptDevice};
 
 use pmb_coefficients::Direct;
@@ -21,20 +21,13 @@ fn bytes_are_small(bytes: &[u8])
     let _ = bytes.len();
 }
 
-/// The coefficients of a kind make a format.
-fn kind_makes_format(kind: Kind)
-    ensures { KindMakesFormat kind }
+/// The format of a kind has an exponent or coefficients in their ranges.
+fn kind_keeps_ranges(kind: &Kind)
+    ensures { KeepsRanges kind.now }
 {
     match kind {
-        Kind::Direct(coefficients) => {
-            let _ = coefficients.m();
-        }
-        Kind::Raw
-        | Kind::Linear11
-        | Kind::Linear11Fixed(_)
-        | Kind::Vout
-        | Kind::VoutSigned
-        | Kind::Status => {}
+        Kind::Number(format) => format.keeps_ranges(),
+        Kind::Raw | Kind::Vout | Kind::VoutSigned | Kind::Status => {}
     }
 }
 
@@ -65,7 +58,7 @@ fn command_is_kept(device: &DeviceProfile, index: usize)
     accepted_device(device);
     match device.entry_at(index) {
         Some(entry) => {
-            kind_makes_format(entry.kind);
+            kind_keeps_ranges(&entry.kind);
             initials_are_small(device, entry.code);
         }
         None => {}

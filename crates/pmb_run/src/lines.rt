@@ -17,11 +17,11 @@ use std::alloc::Global;
 /// against simulated devices: those of the profile, each as it is first made.
 ///
 /// What is recorded of a request is written as canonical capture text (SMBus 3.0 section 6.5), and
-/// after it a line with the result: `# done`, the bytes or the value that were read, or at which byte
-/// the packet was refused. For a line that spells no request, or one for which there is no host,
-/// `# line N: ` and its first fault are written, where N counts all lines from 1 and stays at the
-/// greatest `u64`; for a line of more than 32,768 bytes the fault is `TooLong at 32768`. For a line
-/// without words nothing is written.
+/// after it a line with the result: `# done`, the bytes or the value that were read (`# raw` for a word
+/// without a value), or at which byte the packet was refused. For a line that spells no request, or one
+/// for which there is no host, `# line N: ` and its first fault are written, where N counts all lines
+/// from 1 and stays at the greatest `u64`; for a line of more than 32,768 bytes the fault is
+/// `TooLong at 32768`. For a line without words nothing is written.
 ///
 /// A `set` and a `get` take the VOUT_MODE that the packets before them told. What is written for the
 /// lines of a piece is written before the next is read. The tally counts requests that were done as

@@ -38,7 +38,7 @@ fn append_end(line: &mut ResultLine, end: &HostStep)
     }
 }
 
-/// Appends a reply: `done`, its bytes or its value.
+/// Appends a reply: `done`, its bytes, its value, or `raw` for a word without one.
 fn append_reply(line: &mut ResultLine, reply: &Reply)
     requires { length line.old.items ≤ 3 }
     ensures appended { line.new.items ≡ line.old.items ++ reply_text (reply_data reply.now) }
@@ -48,6 +48,7 @@ fn append_reply(line: &mut ResultLine, reply: &Reply)
         Reply::Written => append(line, b"done"),
         Reply::Bytes(bytes) => append_bytes(line, bytes.as_slice()),
         Reply::Value(value) => append(line, value.text().as_bytes()),
+        Reply::NoValue => append(line, b"raw"),
     }
 }
 

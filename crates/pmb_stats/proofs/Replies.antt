@@ -5,8 +5,7 @@ use Rattle.std.proofs.Common.{ap, arith, refl, ◌∙◌}
 use Rattle.pmb_command.specs.Entry.{EntryParts}
 use Rattle.pmb_command.specs.Parts.{DeviceParts, device_with}
 use Rattle.pmb_command.specs.declared.entry.Kind.{Kind}
-use Rattle.pmb_command.specs.declared.entry.Kind.TheVariants.{Raw, Linear11, Linear11Fixed, Vout}
-use Rattle.pmb_command.specs.declared.entry.Kind.TheVariants.{VoutSigned, Direct, Status}
+use Rattle.pmb_command.specs.declared.entry.Kind.TheVariants.{Raw, Number, Vout, VoutSigned, Status}
 use Rattle.pmb_json_objects.specs.Seen.{SeenData, entry_of, page_at}
 use Rattle.pmb_observed.specs.Observed.{Observation}
 use Rattle.pmb_observed.specs.Observing.{number_seen, of_command, of_device, read_at, read_of, register_of}
@@ -23,11 +22,9 @@ use Rattle.pmb_stats_bits.specs.Bits.{RegisterRead}
 as_register : (kind : Kind) (bytes : List ℕ) (time : Option (List ℕ)) → is_register kind ≡ true
     → register_read kind bytes time ≡ register_of bytes time
 as_register Raw bytes time is = cc
-as_register Linear11 bytes time is = cc
-as_register (Linear11Fixed exponent) bytes time is = cc
+as_register (Number format) bytes time is = cc
 as_register Vout bytes time is = cc
 as_register VoutSigned bytes time is = cc
-as_register (Direct d) bytes time is = cc
 as_register Status bytes time is = refl
 
 -- what a command tells that was read

@@ -20,6 +20,7 @@ use pmb_json_objects::Seen;
 use pmb_mean::Number;
 use pmb_observed::Spot;
 use pmb_table::DeviceProfile;
+use pmb_voltage::Voltages;
 
 /// What a fact tells of a command of a device, on a page.
 pub(crate) enum Observed {
@@ -83,12 +84,9 @@ fn observe_reply(seen: &Seen<'_>, addr: u8, code: u8, bytes: &[u8]) -> Observed
     };
     match entry.kind {
         Kind::Status => observe_register(seen, addr, code, device, entry, bytes),
-        Kind::Raw
-        | Kind::Linear11
-        | Kind::Linear11Fixed(_)
-        | Kind::Vout
-        | Kind::VoutSigned
-        | Kind::Direct(_) => observe_number(seen, addr, code, device, entry, bytes),
+        Kind::Raw | Kind::Number(_) | Kind::Vout | Kind::VoutSigned => {
+            observe_number(seen, addr, code, device, entry, bytes)
+        }
     }
 }
 
@@ -104,13 +102,13 @@ fn observe_number(
     ensures { (known : SeenData) (time : Option (List ℕ)) → Sees seen.now known
         → told time result ≡ number_seen known addr code device.now (entry_parts entry.now) bytes.now }
 {
-    let number = number_of(
-        seen.late.mode(addr),
-        basis(seen, addr),
-        device.vout_direct(),
-        entry.kind,
-        bytes,
-    );
+    let voltages = Voltages {
+        mode: seen.late.mode(addr),
+        page: seen.late.page(addr),
+        coefficients: device.vout_direct(),
+        vid: device.vid(),
+    };
+    let number = number_of(&voltages, basis(seen, addr), code, entry.kind, bytes);
     match number {
         Some(number) => Observed::Number {
             spot: spot_of(seen, addr, code, device, entry),

@@ -3,32 +3,32 @@
 //! Its rows: `tests/rows/stats.txt`, numbers.
 
 ghost use Rattle.std.specs.Prelude.{◌≡◌, option_map, Option, List, ℕ};
-ghost use Rattle.pmb_observed.specs.Observing.{is_assumed, number_of, register_of, voltage, word_number};
+ghost use Rattle.pmb_voltage.specs.Voltage.{voltage_format, voltages_data};
+ghost use Rattle.pmb_observed.specs.Observing.{is_assumed, number_of, register_of, voltage_in, word_number};
 ghost use Rattle.pmb_stats.specs.machine.Observed.{read_at_time};
 
 use pmb_command::Kind;
 use pmb_json_fields::Basis;
 use pmb_mean::Number;
-use pmb_unknown_start::KnownMode;
-use pmb_value::{Direct, Sign};
+use pmb_value::Sign;
+use pmb_voltage::Voltages;
 
-/// The number that data of a command are: two bytes, the low one first. `mode` is the VOUT_MODE by
-/// which an output voltage is read, `basis` says whether that is assumed, and `coefficients` are those
-/// of the device for output voltages in DIRECT.
+/// The number that data of the command with a code are: two bytes, the low one first. `voltages` is what
+/// the format of an output voltage depends on, and `basis` says whether its VOUT_MODE is assumed.
 pub(crate) fn number_of(
-    mode: KnownMode,
+    voltages: &Voltages<'_>,
     basis: Basis,
-    coefficients: Option<Direct>,
+    code: u8,
     kind: Kind,
     bytes: &[u8],
 ) -> Option<Number>
-    ensures { result ≡ number_of mode basis coefficients kind bytes.now }
+    ensures { result ≡ number_of (voltages_data voltages.now) basis code kind bytes.now }
 {
     match bytes {
         [low, high] => word_number(
-            mode,
+            voltages,
             basis,
-            coefficients,
+            code,
             kind,
             u16::from_le_bytes([*low, *high]),
         ),
@@ -38,43 +38,31 @@ pub(crate) fn number_of(
 
 /// The number that a word is, by the command's kind.
 fn word_number(
-    mode: KnownMode,
+    voltages: &Voltages<'_>,
     basis: Basis,
-    coefficients: Option<Direct>,
+    code: u8,
     kind: Kind,
     word: u16,
 ) -> Option<Number>
-    ensures { result ≡ word_number mode basis coefficients kind word }
+    ensures { result ≡ word_number (voltages_data voltages.now) basis code kind word }
 {
     match kind {
         Kind::Raw | Kind::Status => None,
-        // A fixed exponent binds the writer alone: every word has its value.
-        Kind::Linear11 | Kind::Linear11Fixed(_) => Some(Number::linear11(word)),
-        Kind::Vout => voltage(mode, basis, Sign::Unsigned, coefficients, word),
-        Kind::VoutSigned => voltage(mode, basis, Sign::Signed, coefficients, word),
-        Kind::Direct(direct) => Some(Number::direct(&direct, word, false)),
+        Kind::Number(format) => Number::of_word(&format, word, false),
+        Kind::Vout => voltage(voltages, basis, code, Sign::Unsigned, word),
+        Kind::VoutSigned => voltage(voltages, basis, code, Sign::Signed, word),
     }
 }
 
-/// An output voltage by VOUT_MODE, where that is known and the pages share one.
-fn voltage(
-    mode: KnownMode,
-    basis: Basis,
-    sign: Sign,
-    coefficients: Option<Direct>,
-    word: u16,
-) -> Option<Number>
-    ensures { result ≡ voltage mode basis sign coefficients word }
+/// An output voltage, where it has a format, and is no factor of VOUT_COMMAND.
+fn voltage(voltages: &Voltages<'_>, basis: Basis, code: u8, sign: Sign, word: u16) -> Option<Number>
+    ensures { result ≡ voltage_in (voltage_format (voltages_data voltages.now) code sign) basis word }
 {
-    match mode {
-        KnownMode::Known(mode) => Number::voltage(
-            mode,
-            sign,
-            coefficients,
-            word,
-            is_assumed(basis),
-        ),
-        KnownMode::Unknown | KnownMode::NoPage => None,
+    match voltages.format(code, sign) {
+        Ok(format) if !format.is_ratio => {
+            Number::of_word(&format.number, word, is_assumed(basis))
+        }
+        _ => None,
     }
 }
 

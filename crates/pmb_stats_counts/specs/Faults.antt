@@ -5,8 +5,7 @@ use Rattle.std.specs.Prelude.{◌∷◌, codes, nat_eq}
 use Rattle.std.specs.List.{ends_with}
 use Rattle.std.specs.Str.{bytes_eq}
 use Rattle.pmb_command.specs.declared.entry.Kind.{Kind}
-use Rattle.pmb_command.specs.declared.entry.Kind.TheVariants.{Raw, Linear11, Linear11Fixed, Vout}
-use Rattle.pmb_command.specs.declared.entry.Kind.TheVariants.{VoutSigned, Direct}
+use Rattle.pmb_command.specs.declared.entry.Kind.TheVariants.{Raw, Number, Vout, VoutSigned}
 use Rattle.pmb_command.specs.declared.entry.Kind.TheVariants.{Status}
 use Rattle.pmb_command.specs.Entry.{EntryParts}
 use Rattle.pmb_command.specs.Parts.{DeviceParts, device_with}
@@ -44,11 +43,9 @@ register_has_fault code (a ∷ b ∷ c ∷ bytes) = false
 
 abbrev pub is_status : Kind → Bool
 is_status Raw = false
-is_status Linear11 = false
-is_status (Linear11Fixed exponent) = false
+is_status (Number format) = false
 is_status Vout = false
 is_status VoutSigned = false
-is_status (Direct d) = false
 is_status Status = true
 
 abbrev pub is_status_entry : Option EntryParts → Bool

@@ -8,9 +8,7 @@ use Rattle.std.proofs.lemmas.List.Sums.{sum_by-cons}
 use Rattle.std.proofs.Math.Nat.{div-eq_of_lt, pow-le-pow_right}
 use Rattle.std.specs.List.{AllByRecursion}
 use Rattle.pmb_command.specs.declared.entry.Kind.{Kind}
-use Rattle.pmb_command.specs.declared.entry.Kind.TheVariants.{Raw, Linear11, Linear11Fixed, Vout}
-use Rattle.pmb_command.specs.declared.entry.Kind.TheVariants.{VoutSigned, Direct}
-use Rattle.pmb_command.specs.declared.entry.Kind.TheVariants.{Status}
+use Rattle.pmb_command.specs.declared.entry.Kind.TheVariants.{Raw, Number, Vout, VoutSigned, Status}
 use Rattle.pmb_command.specs.Entry.{EntryParts}
 use Rattle.pmb_command.specs.Parts.{DeviceParts, device_with}
 use Rattle.pmb_command.specs.StatusBits.{bit_text}
@@ -30,11 +28,9 @@ use Rattle.pmb_stats_laws.specs.Faults.{FaultIsFound}
 
 same_kind : (kind : Kind) → is_status kind ≡ is_register kind
 same_kind Raw = refl
-same_kind Linear11 = refl
-same_kind (Linear11Fixed exponent) = refl
+same_kind (Number format) = refl
 same_kind Vout = refl
 same_kind VoutSigned = refl
-same_kind (Direct d) = refl
 same_kind Status = refl
 
 same_entry : (entry : Option EntryParts) → is_status_entry entry ≡ is_of is_register entry

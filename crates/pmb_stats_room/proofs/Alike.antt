@@ -2,8 +2,7 @@
 use Rattle.std.proofs.Common.{◌≡◌, ℕ, ◌<◌, true, Option, Some, None, List, arith, refl, ◌∙◌, inl, inr}
 use Rattle.std.proofs.lemmas.Option.{none-some, slice_get_cases}
 use Rattle.pmb_command.specs.declared.entry.Kind.{Kind}
-use Rattle.pmb_command.specs.declared.entry.Kind.TheVariants.{Raw, Linear11, Linear11Fixed, Vout}
-use Rattle.pmb_command.specs.declared.entry.Kind.TheVariants.{VoutSigned, Direct, Status}
+use Rattle.pmb_command.specs.declared.entry.Kind.TheVariants.{Raw, Number, Vout, VoutSigned, Status}
 use Rattle.pmb_command.specs.Entry.{EntryParts}
 use Rattle.pmb_mean.specs.Alike.{TellNumbersAlike}
 use Rattle.pmb_mean.specs.machine.History.{HistoryData, HistoryStandsAt}
@@ -23,20 +22,16 @@ use Rattle.pmb_stats_room.specs.machine.Standing.{IsKept, kept_of}
 
 kept_bits : (kind : Kind) → is_register kind ≡ true → kept_as kind ≡ Some OfBits
 kept_bits Raw is = cc
-kept_bits Linear11 is = cc
-kept_bits (Linear11Fixed exponent) is = cc
+kept_bits (Number format) is = cc
 kept_bits Vout is = cc
 kept_bits VoutSigned is = cc
-kept_bits (Direct d) is = cc
 kept_bits Status is = refl
 
 kept_values : (kind : Kind) → is_numeric kind ≡ true → kept_as kind ≡ Some OfValues
 kept_values Raw is = cc
-kept_values Linear11 is = refl
-kept_values (Linear11Fixed exponent) is = refl
+kept_values (Number format) is = refl
 kept_values Vout is = refl
 kept_values VoutSigned is = refl
-kept_values (Direct d) is = refl
 kept_values Status is = cc
 
 bits_kept : (entry : Option EntryParts) → is_of is_register entry ≡ true → kept_of entry ≡ Some OfBits

@@ -5,8 +5,7 @@ use Rattle.std.specs.Option.{MatchOption, IfSome}
 use denote.Bor.{Bor}
 use Rattle.std.proofs.lemmas.Option.{same_Some}
 use Rattle.pmb_command.specs.declared.entry.Kind.{Kind}
-use Rattle.pmb_command.specs.declared.entry.Kind.TheVariants.{Raw, Linear11, Linear11Fixed, Vout}
-use Rattle.pmb_command.specs.declared.entry.Kind.TheVariants.{VoutSigned, Direct, Status}
+use Rattle.pmb_command.specs.declared.entry.Kind.TheVariants.{Raw, Number, Vout, VoutSigned, Status}
 use Rattle.pmb_command.specs.Entry.{EntryParts}
 use Rattle.pmb_command.specs.Parts.{DeviceParts}
 use Rattle.pmb_mean.specs.Numbers.{NumberData}
@@ -87,11 +86,9 @@ one_more spot sight before after sees profile told stands = record {
 register_kind : (kind : Kind) → (kept_as kind ≡ Some OfBits → is_register kind ≡ true)
     × (kept_as kind ≡ Some OfValues → is_register kind ≡ false)
 register_kind Raw = (λ e. cc, λ e. cc)
-register_kind Linear11 = (λ e. cc, λ e. refl)
-register_kind (Linear11Fixed exponent) = (λ e. cc, λ e. refl)
+register_kind (Number format) = (λ e. cc, λ e. refl)
 register_kind Vout = (λ e. cc, λ e. refl)
 register_kind VoutSigned = (λ e. cc, λ e. refl)
-register_kind (Direct d) = (λ e. cc, λ e. refl)
 register_kind Status = (λ e. refl, λ e. cc)
 
 register_there : (entry : Option EntryParts) → kept_of entry ≡ Some OfBits → is_of is_register entry ≡ true

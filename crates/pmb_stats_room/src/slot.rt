@@ -38,8 +38,7 @@ pub(crate) fn kept_as(kind: Kind) -> Option<SlotKind>
 {
     match kind {
         Kind::Raw => None,
-        Kind::Linear11 | Kind::Linear11Fixed(_) | Kind::Vout | Kind::VoutSigned | Kind::Direct(_) =>
-            Some(SlotKind::OfValues),
+        Kind::Number(_) | Kind::Vout | Kind::VoutSigned => Some(SlotKind::OfValues),
         Kind::Status => Some(SlotKind::OfBits),
     }
 }

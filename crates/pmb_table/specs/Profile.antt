@@ -66,6 +66,7 @@ device_parts keys commands = record {
   pages = keys.pages;
   modes = keys.modes;
   vout_direct = keys.vout_direct;
+  vid = keys.vid;
   commands = commands;
 }
 

@@ -3,17 +3,18 @@
 //! Its rows: `tests_commands`, `src/parts.rt`, `src/sample.rt`; `tests/rows/profiles.txt`.
 
 ghost use Rattle.std.specs.Prelude.{◌≡◌, ◌<◌, length, option_map, slice_get, IfSome, Some};
-ghost use Rattle.pmb_command.specs.Bus.{IsDevice, IsEntry, IsInitial};
+ghost use Rattle.pmb_command.specs.Bus.{HasTableForEach, IsDevice, IsEntry, IsInitial};
 ghost use Rattle.std.specs.Option.{option_and_then};
 ghost use Rattle.pmb_command.specs.Entry.{entry_parts};
 ghost use Rattle.pmb_command.specs.Parts.{HaveOwnCodes, command_with, initial_on};
 ghost use Rattle.pmb_table.specs.Profile.{device_parts};
 ghost use Rattle.pmb_keys.specs.DeviceKeysView.{keys_parts};
+ghost use Rattle.pmb_keys.specs.VidView.{vid_parts};
 
 use crate::command_map::CommandMap;
 use pmb_coefficients::Direct;
 use pmb_command::{Entry, Name, PecMode};
-use pmb_keys::{DeviceKeys, Modes};
+use pmb_keys::{DeviceKeys, Modes, VidTables};
 use std::marker::Model;
 
 /// A device of a bus: its address, how it speaks, and its commands, no two of which have one code.
@@ -27,6 +28,7 @@ pub struct DeviceProfile {
     /// VOUT_MODE of each page at first.
     modes: Modes,
     vout_direct: Option<Direct>,
+    vid: Option<VidTables>,
     commands: CommandMap,
 }
 
@@ -34,6 +36,7 @@ impl Model for DeviceProfile {
     ghost use Rattle.std.specs.Prelude.{option_map};
     ghost use Rattle.pmb_command.specs.Bus.{IsDevice};
     ghost use Rattle.pmb_command.specs.Parts.{DeviceParts};
+    ghost use Rattle.pmb_keys.specs.VidView.{vid_parts};
 
     ghost Value = { DeviceParts };
 
@@ -44,6 +47,7 @@ impl Model for DeviceProfile {
       pages = d.pages;
       modes = d.modes.items;
       vout_direct = d.vout_direct;
+      vid = option_map vid_parts d.vid;
       commands = d.commands;
     } };
 
@@ -54,6 +58,7 @@ impl Model for DeviceProfile {
       pages = d.pages;
       modes = d.modes.items;
       vout_direct = d.vout_direct;
+      vid = option_map vid_parts d.vid;
       commands = d.commands;
     }) };
 }
@@ -71,6 +76,7 @@ impl DeviceProfile {
             pages: keys.pages,
             modes: keys.modes,
             vout_direct: keys.vout_direct,
+            vid: keys.vid,
             commands,
         }
     }
@@ -128,6 +134,14 @@ impl DeviceProfile {
         ensures { result ≡ self.now.vout_direct }
     {
         self.vout_direct
+    }
+
+    /// The VID tables of its output voltages, where the profile tells them.
+    pub fn vid(&self) -> Option<&VidTables>
+        ensures vid { option_map (λ vid. vid_parts vid.now) result ≡ self.now.vid }
+        ensures each { HasTableForEach self.now.pages self.now.vid }
+    {
+        self.vid.as_ref()
     }
 
     /// How many commands there are.

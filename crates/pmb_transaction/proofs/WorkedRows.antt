@@ -67,7 +67,7 @@ may_be code name shape byte named some_form one_form read_data call_form fixed =
       raw = λ is. refl;
       page = λ is. refl;
       kind = refl;
-      exponent = λ exponent is. absurd (cc is);
+      ranges = tt;
     };
   };
   initial = tt;
@@ -103,6 +103,7 @@ is_58h = record {
   mode_of_each = refl;
   bytes = (omega arith, tt);
   one_mode = λ one. refl;
+  tables = tt;
   own_codes = ((refl, tt), (tt, tt));
   commands = (command_03h, (command_88h, tt));
   items = (tt, (tt, tt));
@@ -118,6 +119,7 @@ is_59h = record {
   mode_of_each = refl;
   bytes = (omega arith, tt);
   one_mode = λ one. refl;
+  tables = tt;
   own_codes = (tt, tt);
   commands = (command_19h, tt);
   items = (tt, tt);

@@ -43,6 +43,7 @@ device_58h = record {
   pages = 1;
   modes = 0 ∷ [];
   vout_direct = None;
+  vid = None;
   commands =
       clear_faults ∷ read_vin ∷ [];
 }
@@ -56,6 +57,7 @@ device_59h = record {
   pages = 1;
   modes = 0 ∷ [];
   vout_direct = None;
+  vid = None;
   commands = capability
       ∷ [];
 }

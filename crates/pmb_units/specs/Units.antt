@@ -3,8 +3,9 @@ use Rattle.std.specs.Prelude.{ℕ, ◌==◌, ◌&&◌, Bool, true, false, if◌t
 use Rattle.std.specs.Prelude.{find, option_map}
 use Rattle.std.specs.Str.{bytes_eq}
 use Rattle.pmb_command.specs.declared.entry.Kind.{Kind}
-use Rattle.pmb_command.specs.declared.entry.Kind.TheVariants.{Raw, Linear11, Linear11Fixed, Vout, VoutSigned, Direct}
-use Rattle.pmb_command.specs.declared.entry.Kind.TheVariants.{Status}
+use Rattle.pmb_command.specs.declared.entry.Kind.TheVariants.{Raw, Number, Vout, VoutSigned, Status}
+use Rattle.pmb_value.specs.declared.number_format.NumberFormat.{NumberFormat}
+use Rattle.pmb_value.specs.declared.number_format.NumberFormat.TheVariants as formats
 use Rattle.pmb_command.specs.Commands.{standard_entry}
 use Rattle.pmb_command.specs.Entry.{EntryParts}
 
@@ -106,42 +107,41 @@ standard_unit code = option_map (λ r. r.unit) (find (λ r. r.code == code) unit
 
 -- ---- a device's commands
 
+abbrev pub is_linear11_format : NumberFormat → Bool
+is_linear11_format formats.Linear11 = true
+is_linear11_format (formats.Linear11Fixed exponent) = true
+is_linear11_format (formats.Word format) = false
+is_linear11_format formats.Half = false
+is_linear11_format (formats.Vid table) = false
+
 abbrev pub is_linear11 : Kind → Bool
 is_linear11 Raw = false
-is_linear11 Linear11 = true
-is_linear11 (Linear11Fixed exponent) = true
+is_linear11 (Number format) = is_linear11_format format
 is_linear11 Vout = false
 is_linear11 VoutSigned = false
-is_linear11 (Direct d) = false
 is_linear11 Status = false
 
 abbrev pub is_vout : Kind → Bool
 is_vout Raw = false
-is_vout Linear11 = false
-is_vout (Linear11Fixed exponent) = false
+is_vout (Number format) = false
 is_vout Vout = true
 is_vout VoutSigned = false
-is_vout (Direct d) = false
 is_vout Status = false
 
 abbrev pub is_vout_signed : Kind → Bool
 is_vout_signed Raw = false
-is_vout_signed Linear11 = false
-is_vout_signed (Linear11Fixed exponent) = false
+is_vout_signed (Number format) = false
 is_vout_signed Vout = false
 is_vout_signed VoutSigned = true
-is_vout_signed (Direct d) = false
 is_vout_signed Status = false
 
 -- Whether a device's command has numbers of the standard's kind. One fixed exponent makes no other kind, and the
--- standard has no numbers in DIRECT.
+-- standard has no numbers in another format than LINEAR11.
 abbrev pub has_numbers_of : Kind → Kind → Bool
 has_numbers_of Raw standard = false
-has_numbers_of Linear11 standard = is_linear11 standard
-has_numbers_of (Linear11Fixed exponent) standard = is_linear11 standard
+has_numbers_of (Number format) standard = is_linear11_format format && is_linear11 standard
 has_numbers_of Vout standard = is_vout standard
 has_numbers_of VoutSigned standard = is_vout_signed standard
-has_numbers_of (Direct d) standard = false
 has_numbers_of Status standard = false
 
 -- whether a device's command is the standard's, if the standard has one with its code, by name and kind

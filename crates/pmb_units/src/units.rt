@@ -8,10 +8,11 @@ ghost use Rattle.std.specs.Prelude.{◌≡◌, ◌==◌, ◌≤◌, IfSome, find
 ghost use Rattle.std.specs.Option.{option_copied};
 ghost use Rattle.pmb_command.specs.Commands.{standard_entry};
 ghost use Rattle.pmb_command.specs.Entry.{entry_parts};
-ghost use Rattle.pmb_units.specs.Units.{has_numbers_of, is_linear11, is_standard, standard_unit, unit_of, unit_rows};
+ghost use Rattle.pmb_units.specs.Units.{has_numbers_of, is_linear11, is_linear11_format, is_standard, standard_unit, unit_of, unit_rows};
 ghost use Rattle.pmb_units.specs.machine.Rows.{row_parts};
 
 use pmb_command::{Entry, Kind, standard};
+use pmb_value::NumberFormat;
 
 /// A standard command's code, and the unit of its numbers.
 #[derive(Clone, Copy)]
@@ -122,22 +123,34 @@ fn standard_unit(code: u8) -> Option<&'static str>
 }
 
 /// Whether a device's command has numbers of the standard's kind. One fixed exponent makes no other
-/// kind, and the standard has no numbers in DIRECT.
+/// kind, and the standard has no numbers in another format than LINEAR11.
 fn has_numbers_of(kind: Kind, standard: Kind) -> bool
     ensures { result ≡ has_numbers_of kind standard }
 {
     match kind {
-        Kind::Linear11 | Kind::Linear11Fixed(_) => is_linear11(standard),
+        Kind::Number(format) => is_linear11_format(format) && is_linear11(standard),
         Kind::Vout => matches!(standard, Kind::Vout),
         Kind::VoutSigned => matches!(standard, Kind::VoutSigned),
-        Kind::Raw | Kind::Direct(_) | Kind::Status => false,
+        Kind::Raw | Kind::Status => false,
     }
+}
+
+fn is_linear11_format(format: NumberFormat) -> bool
+    ensures { result ≡ is_linear11_format format }
+{
+    matches!(
+        format,
+        NumberFormat::Linear11 | NumberFormat::Linear11Fixed(_)
+    )
 }
 
 fn is_linear11(kind: Kind) -> bool
     ensures { result ≡ is_linear11 kind }
 {
-    matches!(kind, Kind::Linear11 | Kind::Linear11Fixed(_))
+    match kind {
+        Kind::Number(format) => is_linear11_format(format),
+        Kind::Raw | Kind::Vout | Kind::VoutSigned | Kind::Status => false,
+    }
 }
 
 /// Whether a command is the standard's by its name and its kind.

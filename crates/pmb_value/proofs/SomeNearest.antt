@@ -11,6 +11,10 @@ use Rattle.pmb_format.specs.Coding.{Coding, IsAbove, IsBelow, IsInRange, IsNeare
 use Rattle.pmb_format.specs.Coding.{scaled_code}
 use Rattle.pmb_format.proofs.Nearest.{not_best}
 use Rattle.pmb_format.proofs.OneNearest.{IsSeparated}
+use Rattle.pmb_half.specs.Half.{exponent_field, half}
+use Rattle.pmb_vid.specs.Vid.{first_code, last_code, vid}
+use Rattle.pmb_vid.specs.declared.table.VidTable.{VidTable}
+use Rattle.pmb_vid.specs.declared.table.VidTable.TheVariants.{Vr11, Vr12, Vr13, Imvp9, Amd625mv, Nvidia195mv}
 use Rattle.pmb_linear.specs.Linear.{exponent, linear11_fixed}
 use Rattle.pmb_value.specs.Answers.{HasAnswers}
 
@@ -52,6 +56,41 @@ decide_fixed e k =
       | inl word ↦ elim (same_integer (exponent k) e)
           [ inl same ↦ inl (word, same) | inr other ↦ inr (λ code. other code.1) ]
     ]
+
+pub decide_half : (k : ℕ) → Decided (half.IsCode k)
+decide_half k =
+    elim (decide_word k) [
+      | inr large ↦ inr (λ code. large code.0)
+      | inl word ↦ elim (cases_eq (exponent_field k) 31)
+          [ inl last ↦ inr (λ code. code.1 last) | inr other ↦ inl (word, other) ]
+    ]
+
+pub decide_vid : (table : VidTable) (k : ℕ) → Decided ((vid table).IsCode k)
+decide_vid table k =
+    elim (cases_lt k (first_code table)) [
+      | inl before ↦ inr (λ code. omega (arith, before, code.0))
+      | inr from ↦ elim (cases_lt (last_code table) k)
+          [ inl behind ↦ inr (λ code. omega (arith, behind, code.1)) | inr to ↦ inl (from, to) ]
+    ]
+
+last_is_byte : (table : VidTable) → last_code table ≤ 255
+last_is_byte Vr11 = omega arith
+last_is_byte Vr12 = omega arith
+last_is_byte Vr13 = omega arith
+last_is_byte Imvp9 = omega arith
+last_is_byte Amd625mv = omega arith
+last_is_byte Nvidia195mv = omega arith
+
+pub vid_word : (table : VidTable) (k : ℕ) → (vid table).IsCode k → k < 2 ^ 16
+vid_word table k code = omega (arith, last_is_byte table, code.1)
+
+pub first_is_code : (table : VidTable) → (vid table).IsCode (first_code table)
+first_is_code Vr11 = (omega arith, omega arith)
+first_is_code Vr12 = (omega arith, omega arith)
+first_is_code Vr13 = (omega arith, omega arith)
+first_is_code Imvp9 = (omega arith, omega arith)
+first_is_code Amd625mv = (omega arith, omega arith)
+first_is_code Nvidia195mv = (omega arith, omega arith)
 
 -- ---- the nearest code
 

@@ -7,6 +7,9 @@ pub use Rattle.pmb_format.specs.Direct
 pub use Rattle.pmb_format.specs.Laws
 pub use Rattle.pmb_format.specs.Steps
 pub use Rattle.pmb_linear.specs.Linear
+pub use Rattle.pmb_half.specs.Half
+pub use Rattle.pmb_vid.specs.Vid
 pub mod Vout
 pub mod NumberFormat
+pub mod WordFault
 pub mod Answers

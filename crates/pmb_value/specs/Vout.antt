@@ -16,10 +16,15 @@ abbrev pub linear_of : Bool → ℤ → VoutFormat
 linear_of true exponent = Signed exponent
 linear_of false exponent = Unsigned exponent
 
+-- the coefficients for signed words or for the others, which have a sign or none as these say
+abbrev pub direct_words : Bool → Coefficients → Coefficients
+direct_words true d = record d { unsigned = false }
+direct_words false d = d
+
 -- DIRECT, where there are coefficients
-abbrev pub direct_of : Option Coefficients → Result VoutFormat ModeFault
-direct_of None = Err NoCoefficients
-direct_of (Some d) = Ok (Direct d)
+abbrev pub direct_of : Bool → Option Coefficients → Result VoutFormat ModeFault
+direct_of signed None = Err NoCoefficients
+direct_of signed (Some d) = Ok (Direct (direct_words signed d))
 
 -- Bit 7 is 1 for relative values. Bits 6:5 are 00 for a linear format, 01 for VID, 10 for DIRECT,
 -- 11 for IEEE half precision. Bits 4:0 are the exponent of a linear format.
@@ -29,7 +34,7 @@ format_of mode signed coefficients =
     if mode / 2 ^ 7 == 1 then Err Relative else (
     if kind == 1 then Err Vid else (
     if kind == 3 then Err Ieee else (
-    if kind == 2 then direct_of coefficients else
+    if kind == 2 then direct_of signed coefficients else
     Ok (linear_of signed (twos_complement 5 (mode % 2 ^ 5))))))
 
 -- what a format of VOUT codes

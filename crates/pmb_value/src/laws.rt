@@ -5,6 +5,9 @@ ghost use Rattle.pmb_coefficients.specs.Coefficients.{Coefficients};
 ghost use Rattle.pmb_format.specs.Direct.{direct};
 ghost use Rattle.pmb_format.specs.Laws.{HasOneNearest, KeepsValues};
 ghost use Rattle.pmb_linear.specs.Linear.{IsExponent, linear11, linear11_fixed, ulinear16, slinear16};
+ghost use Rattle.pmb_half.specs.Half.{half};
+ghost use Rattle.pmb_vid.specs.Vid.{vid};
+ghost use Rattle.pmb_vid.specs.declared.table.VidTable.{VidTable};
 ghost use Rattle.pmb_value.specs.Answers.{HasAnswers};
 
 /// LINEAR11: a code nearest to the value of a code has that value.
@@ -33,6 +36,16 @@ pub fn slinear16_keeps_values()
 /// DIRECT, with every slope but 0: a code nearest to the value of a code has that value.
 pub fn direct_keeps_values()
     ensures { (d : Coefficients) → d.m ≢ pos 0 → KeepsValues (direct d) }
+{}
+
+/// Half precision: a code nearest to the value of a code has that value.
+pub fn half_keeps_values()
+    ensures { KeepsValues half }
+{}
+
+/// Each VID table: a code nearest to the value of a code has that value.
+pub fn vid_keeps_values()
+    ensures { (table : VidTable) → KeepsValues (vid table) }
 {}
 
 /// LINEAR11: only one code is nearest to a quantity.
@@ -65,6 +78,16 @@ pub fn direct_has_one_nearest()
     ensures { (d : Coefficients) → d.m ≢ pos 0 → HasOneNearest (direct d) }
 {}
 
+/// Half precision: only one code is nearest to a quantity.
+pub fn half_has_one_nearest()
+    ensures { HasOneNearest half }
+{}
+
+/// Each VID table: only one code is nearest to a quantity.
+pub fn vid_has_one_nearest()
+    ensures { (table : VidTable) → HasOneNearest (vid table) }
+{}
+
 /// In each format, at every exponent from -16 to 15 and with every slope but 0, a quantity is in
 /// range and has a nearest code, or it is below or above all values.
 pub fn quantities_have_answers()
@@ -73,6 +96,8 @@ pub fn quantities_have_answers()
     ensures unsigned { (exponent : ℤ) → IsExponent exponent → HasAnswers (ulinear16 exponent) }
     ensures signed { (exponent : ℤ) → IsExponent exponent → HasAnswers (slinear16 exponent) }
     ensures direct { (d : Coefficients) → d.m ≢ pos 0 → HasAnswers (direct d) }
+    ensures half { HasAnswers half }
+    ensures vid { (table : VidTable) → HasAnswers (vid table) }
 {
     linear11_fixed_has_codes();
 }

@@ -2,7 +2,7 @@
 //!
 //! Its rows: `tests_numbers`, `src/formats/vout.rt`; `tests/rows/numbers.txt`.
 ghost use Rattle.std.specs.Prelude.{◌≡◌, ◌%◌, ◌^◌, ◌<◌};
-ghost use Rattle.pmb_value.specs.Vout.{format_of, linear_of};
+ghost use Rattle.pmb_value.specs.Vout.{direct_words, format_of, linear_of};
 ghost use Rattle.pmb_format.specs.Words.{twos_complement};
 
 use pmb_coefficients::Direct;
@@ -10,7 +10,7 @@ use pmb_format::{Format, RangeFault, Steps};
 use pmb_linear::{Slinear16, Ulinear16, exponent_of};
 use pmb_quantity::Quantity;
 
-/// Why a VOUT_MODE names no format.
+/// Why a VOUT_MODE names none of the formats of a [`VoutFormat`].
 #[derive(Clone, Copy, Debug, PartialEq, Eq)]
 pub enum ModeFault {
     /// Bit 7 is 1: values are relative to VOUT_COMMAND.
@@ -23,7 +23,8 @@ pub enum ModeFault {
     NoCoefficients,
 }
 
-/// A format for output voltages.
+/// The formats that [`vout_format`] tells by a VOUT_MODE. Commands may have them too, with an exponent
+/// or coefficients of their own.
 #[derive(Clone, Copy, Debug, PartialEq, Eq)]
 pub enum VoutFormat {
     /// ULINEAR16, for most commands.
@@ -35,7 +36,8 @@ pub enum VoutFormat {
 }
 
 /// The format that a VOUT_MODE names, for a command whose linear words are signed or not. The
-/// coefficients are those of DIRECT. The first fault in the order of [`ModeFault`] is answered.
+/// coefficients are those of DIRECT: where they count words without a sign, that is for a command
+/// whose words are not signed. The first fault in the order of [`ModeFault`] is answered.
 pub fn vout_format(
     mode: u8,
     signed: bool,
@@ -50,11 +52,18 @@ pub fn vout_format(
         0 => Ok(linear_format(mode, signed)),
         1 => Err(ModeFault::Vid),
         2 => match coefficients {
-            Some(direct) => Ok(VoutFormat::Direct(direct)),
+            Some(direct) => Ok(VoutFormat::Direct(direct_words(direct, signed))),
             None => Err(ModeFault::NoCoefficients),
         },
         _ => Err(ModeFault::Ieee),
     }
+}
+
+/// The coefficients for signed words or for the others.
+fn direct_words(direct: Direct, signed: bool) -> Direct
+    ensures { result ≡ direct_words signed direct }
+{
+    if signed { direct.signed() } else { direct }
 }
 
 /// The linear format whose exponent is in bits 4:0.

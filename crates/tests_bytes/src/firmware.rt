@@ -1,4 +1,5 @@
-//! The program at the head of `pmb_firmware`, and texts that are cut.
+//! The program at the head of `pmb_firmware`, numbers in formats that C names, and texts that are cut.
 
 mod cuts;
 mod doc;
+mod numbers;

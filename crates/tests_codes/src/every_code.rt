@@ -1,6 +1,9 @@
 //! The value of every code is encoded by a code of that value.
 use crate::compare::{ensure, same};
-use pmb_value::{Direct, Format, Linear11, Linear11Fixed, Slinear16, Steps, Ulinear16};
+use pmb_value::{
+    Direct, Format, Linear11, Linear11Fixed, NumberFormat, Slinear16, Steps, Ulinear16, VidTable,
+    WordFault,
+};
 use std::process::Abort;
 
 /// The codes of every format are among the numbers below this one.
@@ -46,6 +49,68 @@ fn direct_codes(rt: &impl Abort) {
     for (m, b, r) in [(3, 2, 1), (-1, 0, -1)] {
         let format = Direct::new(m, b, r).expect(rt, "coefficients");
         check_every(rt, "DIRECT", &format);
+        check_every(rt, "DIRECT without a sign", &format.unsigned());
+    }
+}
+
+/// Each word of half precision that has a value is written for it, but for -0, which is written as 0.
+fn half_codes(rt: &impl Abort) {
+    for index in 0..WORDS {
+        let word = index as u16;
+        let value = NumberFormat::Half.value(word);
+        same(
+            rt,
+            ("no number", word),
+            value.is_err(),
+            word >> 10 & 0x1f == 0x1f,
+        );
+        if let Ok(quantity) = value {
+            let wanted = if word == 0x8000 { 0 } else { word };
+            let code = NumberFormat::Half.encode(&quantity, &mut Steps::new());
+            same(rt, ("half precision", word), code, Ok(wanted));
+        }
+    }
+}
+
+/// A VID table, its first and its last code with a voltage, and whether 0 is off.
+struct Codes(VidTable, u16, u16, bool);
+
+const TABLES: [Codes; 6] = [
+    Codes(VidTable::Vr11, 2, 178, false),
+    Codes(VidTable::Vr12, 1, 255, true),
+    Codes(VidTable::Vr13, 1, 255, true),
+    Codes(VidTable::Imvp9, 1, 255, true),
+    Codes(VidTable::Amd625mv, 0, 216, false),
+    Codes(VidTable::Nvidia195mv, 1, 255, true),
+];
+
+/// Each code with a voltage is written for it, and no other word has one.
+fn vid_codes(rt: &impl Abort) {
+    for Codes(table, first, last, has_off) in &TABLES {
+        let format = NumberFormat::Vid(*table);
+        for index in 0..WORDS {
+            let word = index as u16;
+            match format.value(word) {
+                Ok(quantity) => {
+                    ensure(
+                        rt,
+                        (table.name(), "at", word),
+                        *first <= word && word <= *last,
+                    );
+                    let code = format.encode(&quantity, &mut Steps::new());
+                    same(rt, (table.name(), word), code, Ok(word));
+                }
+                Err(fault) => {
+                    ensure(
+                        rt,
+                        (table.name(), "at", word),
+                        word < *first || *last < word,
+                    );
+                    let is_off = *has_off && word == 0;
+                    same(rt, (table.name(), word), fault == WordFault::Off, is_off);
+                }
+            }
+        }
     }
 }
 
@@ -71,4 +136,6 @@ fn all_formats(rt: HostRuntime) {
     slinear16_codes(&rt);
     direct_codes(&rt);
     linear11_fixed_codes(&rt);
+    half_codes(&rt);
+    vid_codes(&rt);
 }

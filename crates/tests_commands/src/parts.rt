@@ -1,12 +1,16 @@
 //! What an accepted profile says of a command, by hand from the rules in `docs/profiles.md`.
 use crate::compare::same;
-use crate::meanings::Meaning::{Direct, Linear11, Linear11Fixed, Raw, Status, Vout, VoutSigned};
+use crate::meanings::Meaning::{
+    Direct, Half, Linear11, Linear11Fixed, Raw, Slinear16, Status, Ulinear16, UnsignedDirect, Vid,
+    Vout, VoutSigned,
+};
 use crate::meanings::{Meaning, kind_of};
 use crate::shapes::{
     BLOCK, BYTE, CALL_WORD, FOUR, MASK, READ_BLOCK, READ_BYTE, READ_EIGHT, READ_WORD,
     SEND_AND_READ_BYTE, SNAPSHOT, WORD, WRITE_BLOCK, WRITE_EIGHT, WRITE_WORD,
 };
 use pmb_table::{Entry, Profile, Shape};
+use pmb_value::VidTable;
 use std::alloc::Global;
 use std::process::Abort;
 
@@ -57,7 +61,7 @@ struct Row(&'static str, Parts, Option<&'static [u8]>);
 // With a name a key replaces a part of the standard command; with a code nothing is taken from it,
 // not even where it has one.
 #[rattlefmt::skip]
-static COMMANDS: [Row; 24] = [
+static COMMANDS: [Row; 31] = [
     Row("name = 'READ_VIN'", READ_VIN, None),
     Row("name = 'PAGE'", PAGE, None),
     Row("name = 'READ_VIN', write = 'two', initial = 'Ff0a'", Parts(0x88, "READ_VIN", WORD, Linear11, true), Some(b"\xff\x0a")),
@@ -82,6 +86,13 @@ static COMMANDS: [Row; 24] = [
     Row("name = 'VIN_ON', exponent = -16, paged = false, initial = '0080'", Parts(0x35, "VIN_ON", WORD, Linear11Fixed(-16), false), Some(b"\x00\x80")),
     Row("code = 0xd0, read = 'two', kind = 'linear11', exponent = 15", Parts(0xd0, "CMD_d0", READ_WORD, Linear11Fixed(15), false), None),
     Row("exponent = 0, name = 'VOUT_COMMAND', kind = 'linear11'", Parts(0x21, "VOUT_COMMAND", WORD, Linear11Fixed(0), true), None),
+    Row("name = 'READ_VIN', kind = 'half'", Parts(0x88, "READ_VIN", READ_WORD, Half, true), None),
+    Row("name = 'READ_VIN', kind = 'ulinear16', exponent = -9", Parts(0x88, "READ_VIN", READ_WORD, Ulinear16(-9), true), None),
+    Row("code = 0xd0, read = 'two', kind = 'slinear16', exponent = 15", Parts(0xd0, "CMD_d0", READ_WORD, Slinear16(15), false), None),
+    Row("name = 'READ_VOUT', kind = 'vid:vr13'", Parts(0x8b, "READ_VOUT", READ_WORD, Vid(VidTable::Vr13), true), None),
+    Row("code = 0xd0, read = 'two', kind = 'vid:nvidia195mv'", Parts(0xd0, "CMD_d0", READ_WORD, Vid(VidTable::Nvidia195mv), false), None),
+    Row("code = 0xd0, read = 'two', kind = 'direct', m = 3, b = 2, r = 1, unsigned = true", Parts(0xd0, "CMD_d0", READ_WORD, UnsignedDirect(3, 2, 1), false), None),
+    Row("unsigned = false, code = 0xd0, read = 'two', kind = 'direct', m = 3, b = 2, r = 1", Parts(0xd0, "CMD_d0", READ_WORD, Direct(3, 2, 1), false), None),
 ];
 
 #[test]

@@ -1,6 +1,7 @@
 -- The rows of the code's table, as the entries that they make.
 use Rattle.pmb_command.specs.declared.entry.Kind.{Kind}
-use Rattle.pmb_command.specs.declared.entry.Kind.TheVariants.{Raw, Linear11, Vout, VoutSigned, Status}
+use Rattle.pmb_command.specs.declared.entry.Kind.TheVariants.{Raw, Number, Vout, VoutSigned, Status}
+use Rattle.pmb_value.specs.declared.number_format.NumberFormat.TheVariants.{Linear11}
 use Rattle.pmb_command.specs.declared.commands.Row.{Row}
 use Rattle.pmb_command.specs.declared.commands.StandardKind.{StandardKind}
 use Rattle.pmb_command.specs.declared.commands.StandardKind.TheVariants as standard
@@ -9,7 +10,7 @@ use Rattle.pmb_command.specs.Entry.{EntryParts}
 -- a standard kind as a kind
 abbrev pub standard_kind : StandardKind → Kind
 standard_kind standard.Raw = Raw
-standard_kind standard.Linear11 = Linear11
+standard_kind standard.Linear11 = Number Linear11
 standard_kind standard.Vout = Vout
 standard_kind standard.VoutSigned = VoutSigned
 standard_kind standard.Status = Status

@@ -1,8 +1,10 @@
 -- What the parts of a FORMAT say.
-use Rattle.std.specs.Prelude.{◌≡◌, ◌≢◌, ℕ, Option, MatchOption, ℤ, List, [], ◌∷◌, ◌++◌, codes, slice_index, FitsSigned}
+use Rattle.std.specs.Prelude.{◌≡◌, ◌≢◌, ℕ, Bool, Option, MatchOption, ℤ, List, [], ◌∷◌, ◌++◌, codes, slice_index, FitsSigned}
 use mir.Syntax.{Width}
 use Rattle.std.specs.Borrow.{Bor}
-use Rattle.pmb_convert.specs.Spelling.{Saying, linear11_fixed, ulinear16, slinear16, vout, direct, WritesInteger}
+use Rattle.pmb_vid.specs.Names.{table_name}
+use Rattle.pmb_vid.specs.declared.table.VidTable.{VidTable}
+use Rattle.pmb_convert.specs.Spelling.{Saying, linear11_fixed, ulinear16, slinear16, vout, vid, direct, WritesInteger}
 use Rattle.pmb_convert.specs.Spelling.{WritesByte, WritesWord, WritesMode}
 
 -- what a text has after a prefix; nothing where it begins otherwise
@@ -47,7 +49,10 @@ IsSigned E saying = (exponent : ℤ) × WritesByte E exponent × (saying ≡ sli
 abbrev pub IsVout : List ℕ → Saying → Type 0
 IsVout HH saying = (mode : ℕ) × WritesMode HH mode × (saying ≡ vout mode)
 
-pub record IsDirect (numbers : List ℕ) (saying : Saying) : Type 0 where
+abbrev pub IsVid : List ℕ → Saying → Type 0
+IsVid name saying = (table : VidTable) × (name ≡ table_name table) × (saying ≡ vid table)
+
+pub record IsDirect (unsigned : Bool) (numbers : List ℕ) (saying : Saying) : Type 0 where
   pub M : List ℕ
   pub B : List ℕ
   pub R : List ℕ
@@ -58,4 +63,4 @@ pub record IsDirect (numbers : List ℕ) (saying : Saying) : Type 0 where
   pub m_is : WritesWord M m
   pub b_is : WritesWord B b
   pub r_is : WritesByte R r
-  pub is : saying ≡ direct m b r
+  pub is : saying ≡ direct unsigned m b r

@@ -1,7 +1,6 @@
 -- What the checks of a request find.
 use Rattle.std.specs.Prelude.{◌≡◌, ℕ, Option, Some, List, [], ◌∷◌}
 use Rattle.pmb_command.specs.declared.form.Form.{Form}
-use Rattle.pmb_command.specs.Bus.{IsEntry}
 use Rattle.pmb_command.specs.Entry.{EntryParts}
 use Rattle.pmb_command.specs.Parts.{CommandParts, DeviceParts, command_with, device_with}
 use Rattle.pmb_writer.specs.Invalid.{AreKept, Rule, forms_at, has_command, has_device}
@@ -19,7 +18,6 @@ pub record Finds (profile : List DeviceParts) (addr code : ℕ) (device : Device
   pub known : device_with addr profile ≡ Some device
   pub has : command_with code device.commands ≡ Some command
   pub entry_is : command.entry ≡ entry
-  pub accepted : IsEntry entry
 
 -- All rules are kept, and the reply is of this form.
 pub record HasReply (rules : List Rule) (reply : Option Form) (form : Form) : Type 0 where

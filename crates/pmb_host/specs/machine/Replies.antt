@@ -3,12 +3,11 @@ use Rattle.std.specs.Prelude.{◌≡◌, ◌≢◌, ℕ, ◌+◌, ◌*◌, ◌<�
 use Rattle.std.specs.Prelude.{◌∷◌, ◌++◌, length}
 use Rattle.pmb_command.specs.declared.form.Form.{Form}
 use Rattle.pmb_command.specs.Wire.{Fits, wire, wire_length}
-use Rattle.pmb_format.specs.Coding.{value_of}
 use Rattle.pmb_value.specs.declared.number_format.NumberFormat.{NumberFormat}
 use Rattle.pmb_host.specs.declared.reply.ReplyState.{ReplyState}
 use Rattle.pmb_host.specs.declared.reply.ReplyState.TheVariants.{Short, Whole, BadPec}
-use Rattle.pmb_value.specs.NumberFormat.{number_coding}
-use Rattle.pmb_host.specs.Steps.{ReplyData, AllBytes, OneValue}
+use Rattle.pmb_value.specs.WordFault.{value_in}
+use Rattle.pmb_host.specs.Steps.{ReplyData, AllBytes, told_word}
 
 -- how many bytes a reply has that begins with these, with its packet error code
 abbrev pub whole_length : Form → Bool → List ℕ → ℕ
@@ -34,5 +33,5 @@ abbrev pub told_data : Option NumberFormat → List ℕ → ReplyData
 told_data None content = AllBytes content
 told_data (Some format) [] = AllBytes []
 told_data (Some format) (b ∷ []) = AllBytes (b ∷ [])
-told_data (Some format) (low ∷ high ∷ []) = OneValue (value_of (number_coding format) (low + 256 * high))
+told_data (Some format) (low ∷ high ∷ []) = told_word (value_in format (low + 256 * high))
 told_data (Some format) (b ∷ c ∷ d ∷ more) = AllBytes (b ∷ c ∷ d ∷ more)

@@ -1,13 +1,11 @@
 -- What is appended piece by piece.
-use Rattle.std.specs.Prelude.{◌≡◌, ℕ, ◌+◌, ◌≤◌, Bool, true, false, List, ◌++◌, length, map}
+use Rattle.std.specs.Prelude.{◌≡◌, ℕ, ◌+◌, ◌≤◌, List, ◌++◌, length, map}
 use Rattle.std.specs.List.{AllByRecursion}
 use Rattle.pmb_json_text.specs.declared.item_order.ItemOrder.{ItemOrder}
 use Rattle.pmb_json_text.specs.declared.item_order.ItemOrder.TheVariants.{Later}
 use Rattle.pmb_json_text.specs.Json.{string}
 use Rattle.pmb_json_text.specs.Spelling.{AreBytes}
 use Rattle.pmb_json_text.specs.Member.{Member, AreWritable, items_text, members_text, place_after}
-use Rattle.pmb_value.specs.declared.sign.Sign.{Sign}
-use Rattle.pmb_value.specs.declared.sign.Sign.TheVariants.{Signed, Unsigned}
 
 -- Members are appended to those of an object that has some, which makes its text longer by that
 -- many bytes at most.
@@ -25,8 +23,3 @@ pub record AppendsTexts (place : ItemOrder) (texts : List (List ℕ)) (most : �
 -- the place after them
 abbrev pub place_behind : ItemOrder → List (List ℕ) → ItemOrder
 place_behind place texts = place_after place texts
-
--- words count in two's complement
-abbrev pub is_signed : Sign → Bool
-is_signed Signed = true
-is_signed Unsigned = false

@@ -1,8 +1,7 @@
 -- What a slot holds.
 use Rattle.std.specs.Prelude.{◌≡◌, Option, Some, None, List, [], length}
 use Rattle.pmb_command.specs.declared.entry.Kind.{Kind}
-use Rattle.pmb_command.specs.declared.entry.Kind.TheVariants.{Raw, Linear11, Linear11Fixed, Vout}
-use Rattle.pmb_command.specs.declared.entry.Kind.TheVariants.{VoutSigned, Direct, Status}
+use Rattle.pmb_command.specs.declared.entry.Kind.TheVariants.{Raw, Number, Vout, VoutSigned, Status}
 use Rattle.pmb_mean.specs.machine.History.{HistoryData, HistoryStandsAt}
 use Rattle.pmb_mean.specs.Numbers.{NumberData}
 use Rattle.pmb_stats_bits.specs.Bits.{RegisterRead}
@@ -28,11 +27,9 @@ numbers_of (Values history) = Some history
 -- what is kept of a command of a kind
 abbrev pub kept_as : Kind → Option SlotKind
 kept_as Raw = None
-kept_as Linear11 = Some OfValues
-kept_as (Linear11Fixed exponent) = Some OfValues
+kept_as (Number format) = Some OfValues
 kept_as Vout = Some OfValues
 kept_as VoutSigned = Some OfValues
-kept_as (Direct d) = Some OfValues
 kept_as Status = Some OfBits
 
 -- the histories of all 16 bits stand at these reads of a register

@@ -9,6 +9,7 @@ use plain_packets::{
 use pmb_command::{Form, Kind, PecMode};
 use pmb_device::{DeviceSignal, HostSignal};
 use pmb_table::DeviceProfile;
+use pmb_value::{NumberFormat, VoutFormat};
 use std::alloc::{AllocError, Global};
 
 /// The bits of STATUS_CML.
@@ -243,9 +244,9 @@ impl<'p> PlainDevice<'p> {
     /// m, b and R of a command whose numbers may be in DIRECT.
     fn coefficients(&self, code: u8) -> Option<[u8; 5]> {
         let direct = match self.device.entry(code)?.kind {
-            Kind::Direct(direct) => direct,
+            Kind::Number(NumberFormat::Word(VoutFormat::Direct(direct))) => direct,
             Kind::Vout | Kind::VoutSigned => self.device.vout_direct()?,
-            Kind::Raw | Kind::Linear11 | Kind::Linear11Fixed(_) | Kind::Status => return None,
+            Kind::Raw | Kind::Number(_) | Kind::Status => return None,
         };
         let m = direct.m().to_le_bytes();
         let b = direct.b().to_le_bytes();

@@ -14,7 +14,7 @@ fn rows() -> &'static [Row] {
 }
 
 /// Answers of the device at 58h of the sample profile, as it begins.
-static ANSWERS: [Row; 9] = [
+static ANSWERS: [Row; 10] = [
     (0, b"\x88", Ok(b"\x00\xd3")),
     (1, b"\x20", Ok(b"\x17")),
     (0, b"\x99", Ok(b"")),
@@ -22,6 +22,7 @@ static ANSWERS: [Row; 9] = [
     (0xff, b"\x00", Ok(b"\xff")),
     (0, b"\x30\x02\xd0\x01", Ok(b"\x03\x00\x02\x00\x01")),
     (0, b"\x30\x02\x21\x01", Err(CmlBit::BadValue)),
+    (0, b"\x30\x02\x88\x01", Err(CmlBit::BadValue)),
     (0, b"\x1a\x01\x21", Err(CmlBit::BadCommand)),
     (0, b"", Err(CmlBit::BadCommand)),
 ];

@@ -114,8 +114,9 @@ fn sample_rows() -> [Row; 15] {
     ]
 }
 
-/// Under the profile of other forms: zero, too, is written with the one exponent.
-fn other_rows() -> [Row; 6] {
+/// Under the profile of other forms: zero, too, is written with the one exponent, and the VID code that
+/// is off has no value.
+fn other_rows() -> [Row; 13] {
     [
         told_of(
             Asked::Set(0x10, 0x35, b"12", None, false),
@@ -146,6 +147,41 @@ fn other_rows() -> [Row; 6] {
             Asked::Call(0x10, 0xe1, &[1, 2], false),
             Answers::Well(&[3, 4]),
             "S 20 e1 01 02 S 21 ? A ? N P Done(Bytes([3, 4]))",
+        ),
+        told_of(
+            Asked::Set(0x10, 0xe2, b"12", None, false),
+            Answers::Well(&[]),
+            "S 20 e2 00 4a P Done(Written)",
+        ),
+        told_of(
+            Asked::Set(0x10, 0xe2, b"-1/33554432", None, false),
+            Answers::Well(&[]),
+            "S 20 e2 00 00 P Done(Written)",
+        ),
+        told_of(
+            Asked::Get(0x10, 0xe2, None, false),
+            Answers::Well(&[0x00, 0x7c]),
+            "S 20 e2 S 21 ? A ? N P Done(NoValue)",
+        ),
+        told_of(
+            Asked::Set(0x10, 0xe3, b"1", None, false),
+            Answers::Well(&[]),
+            "S 20 e3 97 00 P Done(Written)",
+        ),
+        told_of(
+            Asked::Set(0x10, 0xe3, b"1.52", None, false),
+            Answers::Well(&[]),
+            "S 20 e3 ff 00 P Done(Written)",
+        ),
+        told_of(
+            Asked::Get(0x10, 0xe3, None, false),
+            Answers::Well(&[0x00, 0x00]),
+            "S 20 e3 S 21 ? A ? N P Done(NoValue)",
+        ),
+        told_of(
+            Asked::Get(0x10, 0xe3, None, false),
+            Answers::Well(&[0x97, 0x01]),
+            "S 20 e3 S 21 ? A ? N P Done(NoValue)",
         ),
     ]
 }

@@ -128,7 +128,7 @@ fn sample_rows() -> [Row; 30] {
 }
 
 /// Under the profile of other forms.
-fn other_rows() -> [Row; 5] {
+fn other_rows() -> [Row; 9] {
     [
         (
             Asked::Set(0x10, 0xe0, b"1", None, false),
@@ -148,6 +148,23 @@ fn other_rows() -> [Row; 5] {
         ),
         (
             Asked::Set(0x10, 0x35, b"-128.1", None, false),
+            HostFault::Range(RangeFault::Below),
+        ),
+        (
+            Asked::Set(0x10, 0xe2, b"65505", None, false),
+            HostFault::Range(RangeFault::Above),
+        ),
+        (
+            Asked::Set(0x10, 0xe3, b"2", None, false),
+            HostFault::Range(RangeFault::Above),
+        ),
+        // The code that is off stands for no voltage.
+        (
+            Asked::Set(0x10, 0xe3, b"0", None, false),
+            HostFault::Range(RangeFault::Below),
+        ),
+        (
+            Asked::Set(0x10, 0xe3, b"0.249", None, false),
             HostFault::Range(RangeFault::Below),
         ),
     ]

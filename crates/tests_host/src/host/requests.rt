@@ -6,10 +6,12 @@ use pmb_transaction::Part;
 use pmb_value::Quantity;
 
 /// A command that is written without data and read as a number, one that is called with two bytes,
-/// and one in LINEAR11 with one exponent.
+/// one in half precision, one in VID codes, and one in LINEAR11 with one exponent.
 pub(crate) const OTHER_FORMS: &str = "[[device]]\naddress = 0x10\npec = \"off\"\n\
                                       [[device.command]]\ncode = 0xe0\nwrite = \"zero\"\nread = \"two\"\nkind = \"linear11\"\n\
                                       [[device.command]]\ncode = 0xe1\ncall = \"two\"\n\
+                                      [[device.command]]\ncode = 0xe2\nwrite = \"two\"\nread = \"two\"\nkind = \"half\"\n\
+                                      [[device.command]]\ncode = 0xe3\nwrite = \"two\"\nread = \"two\"\nkind = \"vid:vr12\"\n\
                                       [[device.command]]\nname = \"VIN_ON\"\nexponent = -3\n";
 
 /// A request of a row.

@@ -6,45 +6,53 @@ use pmb_decimal::Digits;
 use pmb_json_fields::{Access, Basis, data_members};
 use pmb_unknown_start::KnownMode;
 use pmb_value::Direct;
+use pmb_voltage::Voltages;
 
 /// The members of an object, as text.
 pub(crate) type Text = ArrayVec<u8, 2048>;
 
-/// What hangs on more than the command: digits, access, the device's VOUT_MODE, what it rests on, and
-/// coefficients.
+/// What hangs on more than the command: digits, access, what the format of an output voltage depends on,
+/// and what the device's VOUT_MODE rests on.
 #[derive(Clone, Copy, Drop)]
-pub(crate) struct Case {
+pub(crate) struct Case<'a> {
     pub digits: u8,
     pub access: Access,
-    pub mode: KnownMode,
+    pub voltages: Voltages<'a>,
     pub basis: Basis,
-    pub coefficients: Option<Direct>,
 }
 
 /// A case in which VOUT_MODE is of no matter.
-pub(crate) fn plain(digits: u8, access: Access) -> Case {
+pub(crate) fn plain<'a>(digits: u8, access: Access) -> Case<'a> {
     Case {
         digits,
         access,
-        mode: KnownMode::NoPage,
+        voltages: by(KnownMode::NoPage, None),
         basis: Basis::Told,
-        coefficients: None,
     }
 }
 
-/// A reading with six digits under a VOUT_MODE.
-pub(crate) fn under(mode: KnownMode, coefficients: Option<Direct>) -> Case {
+/// A reading with six digits under a VOUT_MODE, of a device without VID tables.
+pub(crate) fn under<'a>(mode: KnownMode, coefficients: Option<Direct>) -> Case<'a> {
     Case {
         digits: 6,
         access: Access::Read,
-        mode,
+        voltages: by(mode, coefficients),
         basis: Basis::Told,
+    }
+}
+
+/// A VOUT_MODE where PAGE is 0.
+fn by<'a>(mode: KnownMode, coefficients: Option<Direct>) -> Voltages<'a> {
+    Voltages {
+        mode,
+        page: Some(0),
         coefficients,
+        vid: None,
     }
 }
 
 /// What is said of a command's data, after a `:`; `?` where there are no such digits.
-pub(crate) fn said(case: &Case, code: u8, kind: Kind, bytes: &[u8]) -> Text {
+pub(crate) fn said(case: &Case<'_>, code: u8, kind: Kind, bytes: &[u8]) -> Text {
     let mut text = Text::new();
     let Some(digits) = Digits::new(case.digits) else {
         let _ = text.try_push(b'?');
@@ -55,9 +63,8 @@ pub(crate) fn said(case: &Case, code: u8, kind: Kind, bytes: &[u8]) -> Text {
         &mut text,
         digits,
         case.access,
-        case.mode,
+        &case.voltages,
         case.basis,
-        case.coefficients,
         code,
         kind,
         bytes,
@@ -90,6 +97,11 @@ pub(crate) fn assumed(exact: &str, nearest: &str) -> Text {
     let mut text = value(exact, nearest);
     push(&mut text, ",\"mode\":\"assumed\"");
     text
+}
+
+/// The member of a factor of VOUT_COMMAND.
+pub(crate) fn ratio(exact: &str) -> Text {
+    joined(&[",\"ratio\":\"", exact, "\""])
 }
 
 /// The member of a value that can't be read.

@@ -32,7 +32,7 @@ fn rows() -> &'static [Row] {
 // The widest name has 9 characters, the widest standard command 25 (IOUT_OC_LV_FAULT_RESPONSE), and
 // of the devices only 58 has two pages.
 #[rattlefmt::skip]
-static ROWS: [Row; 27] = [
+static ROWS: [Row; 30] = [
     (Start::AllKnown, "write 58 03", "write 58 21 00 18 pec", Some("0.25"),
         "      0.25  58  VDD_CORE   0  VOUT_COMMAND               write 12 V (VOUT_MODE 17 assumed)\n"),
     // Which page has this VOUT_MODE was not told
@@ -47,11 +47,17 @@ static ROWS: [Row; 27] = [
     (Start::Late, "write 59 03", "write 58 21 00 18", None,
         "            58  VDD_CORE   ?  VOUT_COMMAND               write 00 18 (VOUT_MODE unknown)\n"),
     (Start::AllKnown, "write 58 20 97", "read 58 8b : 00 18", None,
-        "            58  VDD_CORE   0  READ_VOUT                  00 18 (VOUT_MODE 97 relative)\n"),
+        "            58  VDD_CORE   0  READ_VOUT                  12 V (VOUT_MODE 97 assumed)\n"),
+    (Start::AllKnown, "write 58 20 97", "read 58 25 : cd 01", None,
+        "            58  VDD_CORE   0  VOUT_MARGIN_HIGH           0.9004 of VOUT_COMMAND (VOUT_MODE 97 assumed)\n"),
+    (Start::AllKnown, "write 58 20 a0", "read 58 25 : 01 00", None,
+        "            58  VDD_CORE   0  VOUT_MARGIN_HIGH           01 00 (VOUT_MODE a0 relative)\n"),
     (Start::AllKnown, "write 58 20 21", "read 58 8b : 00 18", None,
         "            58  VDD_CORE   0  READ_VOUT                  00 18 (VOUT_MODE 21 VID)\n"),
     (Start::AllKnown, "write 58 20 60", "read 58 8b : 00 18", None,
-        "            58  VDD_CORE   0  READ_VOUT                  00 18 (VOUT_MODE 60 half precision)\n"),
+        "            58  VDD_CORE   0  READ_VOUT                  0.002 V (VOUT_MODE 60 assumed)\n"),
+    (Start::AllKnown, "write 58 20 60", "read 58 8b : 00 7c", None,
+        "            58  VDD_CORE   0  READ_VOUT                  00 7c (not a number)\n"),
     (Start::AllKnown, "write 58 20 40", "read 58 8b : 00 18", None,
         "            58  VDD_CORE   0  READ_VOUT                  00 18 (VOUT_MODE 40 DIRECT, no coefficients)\n"),
     (Start::AllKnown, "write 59 03", "read 58 79 : 40 88", Some("12345678.125"),

@@ -1,4 +1,4 @@
-//! DIRECT, with rising and falling slopes.
+//! DIRECT, with rising and falling slopes, and words with a sign or without.
 use crate::compare::same;
 use crate::formats::checks::{ABOVE, BELOW, check_code, check_round_trip, check_text};
 use pmb_value::{Direct, DirectFault, RangeFault};
@@ -59,6 +59,55 @@ fn direct_text(rt: HostRuntime) {
     check_text(&rt, "a value with no decimal", &format, 0x0000, "-2/3");
 }
 
+/// The word itself is the value.
+const PLAIN: Coefficients = (1, 0, 0);
+
+/// The value is the word below zero.
+const BELOW_ZERO: Coefficients = (-1, 0, 0);
+
+/// The same for words without a sign.
+#[rattlefmt::skip]
+static UNSIGNED_CODES: [(&str, Coefficients, &str, Result<u16, RangeFault>); 11] = [
+    ("no sign, upper half", PLAIN, "40000", Ok(0x9c40)),
+    ("no sign, least", PLAIN, "0", Ok(0x0000)),
+    ("no sign, greatest", PLAIN, "65535", Ok(0xffff)),
+    ("no sign, over", PLAIN, "65536", ABOVE),
+    ("no sign, a little over", PLAIN, "65535.000001", ABOVE),
+    ("no sign, under", PLAIN, "-1", BELOW),
+    ("no sign, a tie goes to the even code", PLAIN, "65533.5", Ok(0xfffe)),
+    ("no sign, falling, least", BELOW_ZERO, "-65535", Ok(0xffff)),
+    ("no sign, falling, greatest", BELOW_ZERO, "0", Ok(0x0000)),
+    ("no sign, falling, over", BELOW_ZERO, "1", ABOVE),
+    ("no sign, falling, under", BELOW_ZERO, "-65536", BELOW),
+];
+
+#[test]
+fn unsigned_codes(rt: HostRuntime) {
+    for &(name, (m, b, r), text, wanted) in &UNSIGNED_CODES {
+        let format = Direct::new(m, b, r).expect(&rt, "coefficients").unsigned();
+        check_code(&rt, name, &format, text, wanted);
+    }
+}
+
+/// A name, coefficients, a word without a sign, and the text of its value.
+#[rattlefmt::skip]
+static UNSIGNED_TEXTS: [(&str, Coefficients, u16, &str); 4] = [
+    ("no sign, least", PLAIN, 0x0000, "0"),
+    ("no sign, upper half", PLAIN, 0x8000, "32768"),
+    ("no sign, greatest", PLAIN, 0xffff, "65535"),
+    ("no sign, falling", BELOW_ZERO, 0xffff, "-65535"),
+];
+
+#[test]
+fn unsigned_texts(rt: HostRuntime) {
+    for &(name, (m, b, r), code, wanted) in &UNSIGNED_TEXTS {
+        let direct = Direct::new(m, b, r).expect(&rt, "coefficients");
+        check_text(&rt, name, &direct.unsigned(), code, wanted);
+        same(&rt, name, direct.unsigned().is_unsigned(), true);
+        same(&rt, name, direct.unsigned().signed(), direct);
+    }
+}
+
 /// A name and coefficients.
 static FORMATS: [(&str, Coefficients); 4] = [
     ("rising", RISING),
@@ -73,6 +122,7 @@ fn direct_round_trip(rt: HostRuntime) {
         let format = Direct::new(m, b, r).expect(&rt, "coefficients");
         same(&rt, name, (format.m(), format.b(), format.r()), (m, b, r));
         check_round_trip(&rt, name, &format);
+        check_round_trip(&rt, name, &format.unsigned());
     }
 }
 

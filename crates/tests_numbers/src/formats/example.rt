@@ -1,8 +1,10 @@
 //! The examples of the crates' pages.
 use crate::compare::same;
 use pmb_format::rounding;
+use pmb_half::{Half, has_no_value};
 use pmb_linear::{Linear11, Linear11Fixed};
 use pmb_value::{Format, Quantity, Steps, vout_format};
+use pmb_vid::VidTable;
 use std::test::Fail;
 
 #[test]
@@ -53,5 +55,32 @@ fn linear_formats(rt: HostRuntime) -> Result<(), Fail> {
         format.encode(&wanted, &mut Steps::new()),
         Ok(0xeffd),
     );
+    Ok(())
+}
+
+#[test]
+fn vid_tables(rt: HostRuntime) -> Result<(), Fail> {
+    let wanted = Quantity::new(1, 1)?;
+    same(
+        &rt,
+        "1 V",
+        VidTable::Vr12.encode(&wanted, &mut Steps::new()),
+        Ok(0x97),
+    );
+    same(&rt, "a name", VidTable::named("vr12"), Some(VidTable::Vr12));
+    Ok(())
+}
+
+#[test]
+fn half_precision(rt: HostRuntime) -> Result<(), Fail> {
+    let wanted = Quantity::new(1, 3)?;
+    same(
+        &rt,
+        "half precision",
+        Half.encode(&wanted, &mut Steps::new()),
+        Ok(0x3555),
+    );
+    same(&rt, "decoded", Half.decode(0xc000), Quantity::new(-2, 1)?);
+    same(&rt, "an infinity", has_no_value(0x7c00), true);
     Ok(())
 }

@@ -51,6 +51,32 @@ fn vout_direct(rt: HostRuntime) {
     );
 }
 
+#[test]
+fn vout_direct_without_a_sign(rt: HostRuntime) {
+    let direct = Direct::new(3, 2, 1).expect(&rt, "coefficients");
+    let unsigned = direct.unsigned();
+    let format = vout_format(0x40, false, Some(unsigned));
+    same(
+        &rt,
+        "words without a sign",
+        format,
+        Ok(VoutFormat::Direct(unsigned)),
+    );
+}
+
+#[test]
+fn vout_direct_of_a_trim(rt: HostRuntime) {
+    let direct = Direct::new(3, 2, 1).expect(&rt, "coefficients");
+    let unsigned = direct.unsigned();
+    let format = vout_format(0x40, true, Some(unsigned));
+    same(
+        &rt,
+        "a trim has a sign",
+        format,
+        Ok(VoutFormat::Direct(direct)),
+    );
+}
+
 /// A name, a VOUT_MODE, and its fault where there are no coefficients.
 static FAULTS: [(&str, u8, ModeFault); 5] = [
     ("relative, linear", 0x97, ModeFault::Relative),

@@ -9,6 +9,7 @@ returns-clause-encode c = λ format is.
     comes_first (Encode format) (encodes (λ n d positive. (c.lowest_terms.ensures n d positive).positive)
     c.linear11_has_one_nearest.ensures c.linear11_fixed_has_one_nearest.ensures c.linear11_fixed_has_codes.ensures
     c.ulinear16_has_one_nearest.ensures c.slinear16_has_one_nearest.ensures c.direct_has_one_nearest.ensures
+    c.half_has_one_nearest.ensures c.vid_has_one_nearest.ensures
     format is) (c.ended_lines_stay.ensures most_conversion_line)
 
 pub returns-clause-decode : goal.returns-clause-decode

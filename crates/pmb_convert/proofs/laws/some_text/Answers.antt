@@ -7,7 +7,8 @@ returns-clause-encode c = λ format is.
     has_text (Encode format) (encodes_some (λ n d positive. (c.lowest_terms.ensures n d positive).positive)
     c.quantities_have_answers.ensures.linear11 c.quantities_have_answers.ensures.fixed
     c.quantities_have_answers.ensures.unsigned c.quantities_have_answers.ensures.signed
-    c.quantities_have_answers.ensures.direct
+    c.quantities_have_answers.ensures.direct c.quantities_have_answers.ensures.half
+    c.quantities_have_answers.ensures.vid
     format is)
 
 pub returns-clause-decode : goal.returns-clause-decode

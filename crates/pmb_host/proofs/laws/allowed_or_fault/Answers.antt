@@ -9,6 +9,8 @@ returns c profile request bus formed sound =
       fixed = λ exponent is. (answers.fixed exponent is, c.linear11_fixed_has_one_nearest.ensures exponent is);
       unsigned = λ exponent is. (answers.unsigned exponent is, c.ulinear16_has_one_nearest.ensures exponent is);
       signed = λ exponent is. (answers.signed exponent is, c.slinear16_has_one_nearest.ensures exponent is);
+      half = (answers.half, c.half_has_one_nearest.ensures);
+      vid = λ table. (answers.vid table, c.vid_has_one_nearest.ensures table);
       direct = λ d make. (answers.direct d make.slope, c.direct_has_one_nearest.ensures d make.slope);
     } in
     request_made profile bus formed good request sound

@@ -1,17 +1,5 @@
--- Only two bytes are a word.
-use Rattle.std.proofs.Common.{◌≡◌, true, false, ltb, length, rules}
-use Rattle.pmb_json_fields.specs.Value.{value_members}
-use Rattle.pmb_json_fields.proofs.Pieces.{called, nothing, too_long, too_short}
+use Rattle.pmb_json_fields.proofs.Pieces.{then}
 use Rattle.pmb_json_fields.proofs.number.append_quantity.Goals as goal
 
-pub returns-then-bytes-lt2 : goal.returns-then-bytes-lt2
-returns-then-bytes-lt2 g c =
-    let few : ltb (length c.args.bytes.now) 2 ≡ true = search rules in
-    called (too_short (value_members c.args.digits (g.F.Format.coding c.args.format.now)) c.args.bytes.now few)
-    (nothing 345 c.args.out.now.items)
-
-pub returns-else-bytes-lt3 : goal.returns-else-bytes-lt3
-returns-else-bytes-lt3 g c =
-    let many : ltb (length c.args.bytes.now) 3 ≡ false = search rules in
-    called (too_long (value_members c.args.digits (g.F.Format.coding c.args.format.now)) c.args.bytes.now many)
-    (nothing 345 c.args.out.now.items)
+pub returns : goal.returns
+returns g c = then c.append_exact.ensures c.append_nearest.ensures

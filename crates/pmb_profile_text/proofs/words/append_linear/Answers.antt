@@ -6,7 +6,6 @@ use Rattle.pmb_profile_text.proofs.words.append_linear.Goals as goal
 
 pub returns-clause-text : goal.returns-clause-text
 returns-clause-text c =
-    let word = c.as_slice.ensures.value ∙ (c.exponent_word.ensures.word
-    ∙ ap signed_decimal (to_z-of_z w8 c.args.exponent c.ranges.exponent)) in
-    then c.args.row.now.items _ _ (codes "linear, in steps of 2^") _ c.append.ensures c.append-2.ensures
-    ∙ ap (λ (text : List ℕ). c.args.row.now.items ++ (codes "linear, in steps of 2^" ++ text)) word
+    let exponent = ap signed_decimal (to_z-of_z w8 c.args.exponent c.ranges.exponent) in
+    then c.args.row.now.items _ _ (codes "linear, in steps of 2^") _ c.append.ensures c.append_number.ensures.text
+    ∙ ap (λ (text : List ℕ). c.args.row.now.items ++ (codes "linear, in steps of 2^" ++ text)) exponent

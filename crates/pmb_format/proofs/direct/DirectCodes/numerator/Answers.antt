@@ -24,9 +24,10 @@ returns-clause-value c =
     let least : negsuc 8 ≤ℤ c.r.result = rw c.r.ensures.value c.r.ensures.kept.least in
     let greatest : c.r.result ≤ℤ pos 9 = rw c.r.ensures.value c.r.ensures.kept.greatest in
     let minus_r_fits : SFits w8 (neg_ℤ c.r.result) = omega (arith, ints, least, greatest) in
-    let complement_fits : SFits w32 c.twos_complement.result = search rules in
+    let number_fits : SFits w32 c.number_of.result = search rules in
     let from_fits : SFits w32 c.from.result = search rules in
-    let inside : Coefficients = record { m = c.m.result; b = c.b.result; r = c.r.result } in
+    let unsigned = c.args.self.now.unsigned in
+    let inside : Coefficients = record { m = c.m.result; b = c.b.result; r = c.r.result; unsigned = unsigned } in
     let same : inside ≡ c.args.self.now = rw (c.m.ensures.value, c.b.ensures.value, c.r.ensures.value) refl in
     let one_r : c.r-2.result ≡ c.r.result = c.r-2.ensures.value ∙ sym c.r.ensures.value in
     let value = simp to_z-of_z at c.with_sign_of.ensures.value in
@@ -35,6 +36,6 @@ returns-clause-value c =
     let down = simp (to_z-of_z, +ℤ_idl) at c.ten_to.ensures.value in
     let up = simp (to_z-of_z, one_r) at c.ten_to-2.ensures.value in
     let from = simp to_z-of_z at c.from.ensures in
-    rw to_z-of_z (numerator_is c.args.code c.args.self.now inside c.twos_complement.result c.times-word.result
+    rw to_z-of_z (numerator_is c.args.code c.args.self.now inside c.number_of.result c.times-word.result
     c.from.result c.times-offset.result c.with_sign_of.result c.ten_to.result c.ten_to-2.result same
-    c.twos_complement.ensures.value down word from up offset value)
+    c.number_of.ensures.value down word from up offset value)

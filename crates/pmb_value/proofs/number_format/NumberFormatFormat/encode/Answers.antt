@@ -26,3 +26,18 @@ returns-in-Word-clause-below c = rw c.in-Word.is c.encode-in-Word.ensures.below
 
 pub returns-in-Word-clause-above : goal.returns-in-Word-clause-above
 returns-in-Word-clause-above c = rw c.in-Word.is c.encode-in-Word.ensures.above
+
+pub returns-in-Half-clause-in_range : goal.returns-in-Half-clause-in_range
+returns-in-Half-clause-in_range c = rw c.in-Half.is c.encode-in-Half.ensures.in_range
+
+pub returns-in-Half-clause-below : goal.returns-in-Half-clause-below
+returns-in-Half-clause-below c = rw c.in-Half.is c.encode-in-Half.ensures.below
+
+pub returns-in-Half-clause-above : goal.returns-in-Half-clause-above
+returns-in-Half-clause-above c = rw c.in-Half.is c.encode-in-Half.ensures.above
+
+pub returns-in-Vid-clause-below : goal.returns-in-Vid-clause-below
+returns-in-Vid-clause-below c = rw c.in-Vid.is c.encode-in-Vid.ensures.below
+
+pub returns-in-Vid-clause-above : goal.returns-in-Vid-clause-above
+returns-in-Vid-clause-above c = rw c.in-Vid.is c.encode-in-Vid.ensures.above

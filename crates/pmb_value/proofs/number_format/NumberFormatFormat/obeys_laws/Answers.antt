@@ -27,3 +27,12 @@ returns-in-Word-clause-canonical_codes c = rw c.in-Word.is c.obeys_laws-in-Word.
 
 pub returns-in-Word-clause-one_even : goal.returns-in-Word-clause-one_even
 returns-in-Word-clause-one_even c = rw c.in-Word.is c.obeys_laws-in-Word.ensures.one_even
+
+pub returns-in-Half-clause-one_code : goal.returns-in-Half-clause-one_code
+returns-in-Half-clause-one_code c = rw c.in-Half.is c.obeys_laws-in-Half.ensures.one_code
+
+pub returns-in-Half-clause-one_even : goal.returns-in-Half-clause-one_even
+returns-in-Half-clause-one_even c = rw c.in-Half.is c.obeys_laws-in-Half.ensures.one_even
+
+pub returns-in-Vid-clause-one_even : goal.returns-in-Vid-clause-one_even
+returns-in-Vid-clause-one_even c = rw c.in-Vid.is c.obeys_laws-in-Vid.ensures.one_even

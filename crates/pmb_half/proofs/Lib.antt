@@ -1,0 +1,4 @@
+pub mod Magnitudes
+pub mod OneHalf
+pub mod HalfEnds
+pub mod HalfNearest

@@ -1,0 +1,3 @@
+pub mod Vid
+pub mod Names
+pub mod machine

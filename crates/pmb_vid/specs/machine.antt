@@ -1,0 +1,2 @@
+-- What private parts of the code say. No public contract is understood by these.
+pub mod AllCodes

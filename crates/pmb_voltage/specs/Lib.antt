@@ -1,0 +1,2 @@
+pub mod Voltage
+pub mod Laws
