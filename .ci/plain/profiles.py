@@ -6,7 +6,7 @@ import os
 import re
 from typing import NamedTuple, Optional, Union
 
-from .numbers import direct
+from .numbers import direct, linear, vid
 
 ROOT = os.path.dirname(os.path.dirname(os.path.dirname(os.path.abspath(__file__))))
 ALL_PAGES = 0xFF
@@ -20,13 +20,31 @@ class Entry(NamedTuple):
     call: Optional[str] = None
     kind: str = "raw"
     paged: bool = False
-    coefficients: Optional[tuple] = None
+    coefficients: Optional[tuple] = None  # a format, direct or udirect
     exponent: Optional[int] = None
     initial: Union[bytes, list, None] = None  # a list has an item for each page
 
     def form_held(self):
         """The form of the register, or None where there is none (docs/devices.md)."""
         return self.read or (self.write if self.write != "zero" else None)
+
+    def is_voltage(self):
+        """Whether VOUT_MODE says what its numbers are."""
+        return self.kind in ("vout", "vout_signed")
+
+    def number_format(self):
+        """The format of its numbers, where VOUT_MODE doesn't say it."""
+        if self.kind == "direct":
+            return self.coefficients
+        if self.kind == "half":
+            return ("half",)
+        if self.kind.startswith("vid:"):
+            return vid(self.kind[len("vid:"):])
+        if self.kind in ("ulinear16", "slinear16"):
+            return linear(self.kind, self.exponent)
+        if self.exponent is not None:
+            return linear("linear11 fixed", self.exponent)
+        return ("linear11",)
 
     def initial_on(self, page):
         """The bytes that the profile gives the register of a page, or None."""
@@ -38,8 +56,9 @@ class Device(NamedTuple):
     pec: str
     entries: dict  # by their codes, in their order
     modes: list  # VOUT_MODE at first, of each page
-    vout_direct: Optional[tuple] = None
+    vout_direct: Optional[tuple] = None  # a format, direct or udirect
     name: Optional[str] = None
+    vid: Union[str, list, dict, None] = None  # a table, one for each page, or some by types
 
     @property
     def pages(self):
@@ -141,7 +160,76 @@ BOARD = Profile((
 ))
 
 LTC3880_TEXT = example("profiles/ltc3880.toml")
-LTC3880 = Profile((device(0x4F, "optional", modes=[0x14, 0x14]),))
+LTC3880 = Profile((
+    device(
+        0x4F, "optional",
+        standard("VOUT_MODE", write=None),
+        standard("VIN_ON", paged=False),
+        standard("VIN_OFF", paged=False),
+        standard("VIN_OV_FAULT_LIMIT", paged=False),
+        standard("VIN_UV_WARN_LIMIT", paged=False),
+        standard("IIN_OC_WARN_LIMIT", paged=False),
+        standard("STATUS_INPUT", paged=False),
+        standard("STATUS_CML", paged=False),
+        standard("READ_VIN", paged=False),
+        standard("READ_IIN", paged=False),
+        standard("READ_TEMPERATURE_2", paged=False),
+        standard("MFR_ID", write=None),
+        standard("MFR_MODEL", write=None),
+        standard("MFR_SERIAL", write=None),
+        standard("USER_DATA_00", write="two", read="two"),
+        standard("USER_DATA_01", write="two", read="two", paged=True),
+        standard("USER_DATA_02", write="two", read="two"),
+        standard("USER_DATA_03", write="two", read="two", paged=True),
+        standard("USER_DATA_04", write="two", read="two"),
+        Entry(0xDD, "MFR_VOUT_PEAK", read="two", kind="vout", paged=True),
+        Entry(0xD7, "MFR_IOUT_PEAK", read="two", kind="linear11", paged=True),
+        Entry(0xF6, "MFR_IOUT_CAL_GAIN_TC", write="two", read="two", kind="direct", paged=True, coefficients=("direct", 1, 0, 0)),
+        Entry(0xDE, "MFR_VIN_PEAK", read="two", kind="linear11"),
+        Entry(0xDF, "MFR_TEMPERATURE_1_PEAK", read="two", kind="linear11", paged=True),
+        Entry(0xF4, "MFR_TEMPERATURE_2_PEAK", read="two", kind="linear11"),
+        Entry(0xF8, "MFR_TEMP_1_GAIN", write="two", read="two", kind="direct", paged=True, coefficients=("direct", 16384, 0, 0)),
+        Entry(0xF9, "MFR_TEMP_1_OFFSET", write="two", read="two", kind="linear11", paged=True),
+        Entry(0xE7, "MFR_SPECIAL_ID", read="two"),
+        Entry(0xE5, "MFR_PADS_LTC3880", read="two"),
+        Entry(0xEF, "MFR_COMMON", read="one"),
+        Entry(0xD0, "MFR_CHAN_CONFIG_LTC3880", write="one", read="one", paged=True),
+        Entry(0xD1, "MFR_CONFIG_ALL_LTC3880", write="one", read="one"),
+        Entry(0xD2, "MFR_GPIO_PROPAGATE_LTC3880", write="two", read="two", paged=True),
+        Entry(0xD4, "MFR_PWM_MODE_LTC3880", write="one", read="one", paged=True),
+        Entry(0xD5, "MFR_GPIO_RESPONSE", write="one", read="one", paged=True),
+        Entry(0xDB, "MFR_RETRY_DELAY", write="two", read="two", kind="linear11", paged=True),
+        Entry(0xDC, "MFR_RESTART_DELAY", write="two", read="two", kind="linear11", paged=True),
+        Entry(0xE6, "MFR_ADDRESS", write="one", read="one"),
+        Entry(0xF5, "MFR_PWM_CONFIG_LTC3880", write="one", read="one"),
+        Entry(0xFA, "MFR_RAIL_ADDRESS", write="one", read="one", paged=True),
+        Entry(0xE3, "MFR_CLEAR_PEAKS", write="zero"),
+        Entry(0xF0, "MFR_COMPARE_USER_ALL", write="zero"),
+        Entry(0xFD, "MFR_RESET", write="zero"),
+        Entry(0xEA, "MFR_FAULT_LOG_STORE", write="zero"),
+        Entry(0xEC, "MFR_FAULT_LOG_CLEAR", write="zero"),
+        Entry(0xEE, "MFR_FAULT_LOG", read="block"),
+        modes=[0x14, 0x14],
+    ),
+    device(
+        0x5B, "optional",
+        standard("VOUT_MODE", write=None),
+        Entry(0xE3, "MFR_CLEAR_PEAKS", write="zero"),
+        Entry(0xEA, "MFR_FAULT_LOG_STORE", write="zero"),
+        Entry(0xEC, "MFR_FAULT_LOG_CLEAR", write="zero"),
+        Entry(0xFD, "MFR_RESET", write="zero"),
+        modes=[0x14, 0x14],
+    ),
+    device(
+        0x5A, "optional",
+        standard("VOUT_MODE", write=None),
+        Entry(0xE3, "MFR_CLEAR_PEAKS", write="zero"),
+        Entry(0xEA, "MFR_FAULT_LOG_STORE", write="zero"),
+        Entry(0xEC, "MFR_FAULT_LOG_CLEAR", write="zero"),
+        Entry(0xFD, "MFR_RESET", write="zero"),
+        modes=[0x14],
+    ),
+))
 
 PFE1100_TEXT = example("profiles/pfe1100.toml")
 PFE1100 = Profile((device(0x58, "optional", modes=[0x16]),))
@@ -304,6 +392,72 @@ UNLIKE = Profile(
     ignored=[0x00, 0x0C, 0x48, 0x50, 0x7F],
 )
 
+# VID tables in each shape, IEEE halves, DIRECT without a sign, and a fixed exponent of 16 bits.
+VOLTS_TEXT = b"""
+[[device]]
+address = 0x20
+pec = "optional"
+pages = 2
+vout_mode = [0x21, 0x60]
+vout_direct = { m = 2, b = 0, r = 3, unsigned = true }
+vid = ["vr12", "vr13"]
+command = [
+    { code = 0xe0, write = "two", read = "two", kind = "half", initial = "003c" },
+    { code = 0xe1, write = "two", read = "two", kind = "vid:amd625mv", paged = true, initial = ["0000", "d900"] },
+    { code = 0xe2, write = "two", read = "two", kind = "ulinear16", exponent = -9 },
+    { code = 0xe3, write = "two", read = "two", kind = "slinear16", exponent = 15 },
+    { code = 0xe4, write = "two", read = "two", kind = "direct", m = 1, b = 0, r = 0, unsigned = true, initial = "ffff" },
+    { name = "READ_VIN", kind = "half", initial = "007c" },
+    { name = "READ_IIN", kind = "direct", m = -3, b = 1, r = 1, unsigned = false },
+    { name = "VOUT_MARGIN_HIGH", kind = "vout_signed" },
+]
+
+[[device]]
+address = 0x21
+pec = "off"
+vout_mode = 0xa1
+vid = { 0 = "vr11", 1 = "imvp9", 31 = "nvidia195mv" }
+
+[[device]]
+address = 0x22
+pec = "off"
+vout_mode = 0x20
+vid = "amd625mv"
+
+[[device]]
+address = 0x23
+pec = "off"
+pages = 2
+vout_mode = 0x3f
+vid = ["vr13", "vr13"]
+vout_direct = { unsigned = false, m = -3, b = 1, r = -2 }
+
+[[device]]
+address = 0x24
+pec = "off"
+vid = {}
+"""
+VOLTS = Profile((
+    device(
+        0x20, "optional",
+        Entry(0xE0, "CMD_e0", "two", "two", kind="half", initial=b"\x00\x3c"),
+        Entry(0xE1, "CMD_e1", "two", "two", kind="vid:amd625mv", paged=True,
+              initial=[b"\0\0", b"\xd9\0"]),
+        Entry(0xE2, "CMD_e2", "two", "two", kind="ulinear16", exponent=-9),
+        Entry(0xE3, "CMD_e3", "two", "two", kind="slinear16", exponent=15),
+        Entry(0xE4, "CMD_e4", "two", "two", kind="direct", initial=b"\xff\xff",
+              coefficients=direct(1, 0, 0, "udirect")),
+        standard("READ_VIN", kind="half", initial=b"\x00\x7c"),
+        standard("READ_IIN", kind="direct", coefficients=direct(-3, 1, 1)),
+        standard("VOUT_MARGIN_HIGH", kind="vout_signed"),
+        modes=[0x21, 0x60], vout_direct=direct(2, 0, 3, "udirect"), vid=["vr12", "vr13"],
+    ),
+    device(0x21, "off", modes=[0xA1], vid={0: "vr11", 1: "imvp9", 31: "nvidia195mv"}),
+    device(0x22, "off", modes=[0x20], vid="amd625mv"),
+    device(0x23, "off", modes=[0x3F, 0x3F], vid=["vr13", "vr13"], vout_direct=direct(-3, 1, -2)),
+    device(0x24, "off", vid={}),
+))
+
 # A device on each of 17 addresses, so that a group can be too long.
 MANY_TEXT = b"".join(
     b"[[device]]\naddress = %d\npec = 'off'\n" % address for address in range(0x10, 0x21)
@@ -312,7 +466,8 @@ MANY = Profile(tuple(device(address, "off") for address in range(0x10, 0x21)))
 
 KNOWN = {
     SAMPLE_TEXT: SAMPLE, BOARD_TEXT: BOARD, LTC3880_TEXT: LTC3880, PFE1100_TEXT: PFE1100,
-    BENCH_TEXT: BENCH, RAILS_TEXT: RAILS, ODD_TEXT: ODD, UNLIKE_TEXT: UNLIKE, MANY_TEXT: MANY,
+    BENCH_TEXT: BENCH, RAILS_TEXT: RAILS, ODD_TEXT: ODD, UNLIKE_TEXT: UNLIKE, VOLTS_TEXT: VOLTS,
+    MANY_TEXT: MANY,
     b"device = []\n": Profile(()), b"ignore = []\ndevice = []\n": Profile((), ignored=[]),
 }
 
@@ -363,4 +518,23 @@ FAULTS = {
         "BadInitial in device 0 command 0",
     COMMAND + b"name = 'MFR_ID'\ninitial = ['41']\n": "BadInitial in device 0 command 0",
     COMMAND + b"name = 'READ_VIN'\ninitial = [1]\n": "WrongType in device 0 command 0",
+    ONE + b"vid = 'vr14'\n": "BadValue in device 0",
+    ONE + b"vid = 1\nname = ''\n": "BadName in device 0",
+    ONE + b"vid = 1\n": "WrongType in device 0",
+    ONE + b"vid = ['vr11', 1, 'x']\n": "WrongType in device 0",
+    ONE + b"vid = ['vr11', 'vr11']\n": "BadValue in device 0",
+    ONE + b"vid = { 1 = 1, 32 = 'vr11' }\n": "BadValue in device 0",
+    ONE + b"vid = { 10 = 'x', 9 = 1 }\n": "WrongType in device 0",
+    ONE + b"vout_direct = { m = 1, b = 0, r = 0, unsigned = 1 }\n": "WrongType in device 0",
+    ONE + b"vout_direct = { m = 0, b = 0, r = 0, unsigned = 1 }\n": "BadCoefficients in device 0",
+    ONE + b"unsigned = true\n": "UnknownKey in device 0",
+    COMMAND + b"name = 'READ_VIN'\nunsigned = false\n": "UnknownKey in device 0 command 0",
+    COMMAND + b"name = 'READ_VIN'\nunsigned = 1\n": "WrongType in device 0 command 0",
+    COMMAND + b"name = 'READ_VIN'\nkind = 'slinear16'\n": "MissingKey in device 0 command 0",
+    COMMAND + b"name = 'READ_VIN'\nkind = 'ulinear16'\nexponent = -17\n":
+        "BadValue in device 0 command 0",
+    COMMAND + b"name = 'READ_VIN'\nkind = 'half'\nexponent = 0\n":
+        "UnknownKey in device 0 command 0",
+    COMMAND + b"name = 'READ_VIN'\nkind = 'vid:vr10'\n": "BadValue in device 0 command 0",
+    COMMAND + b"name = 'MFR_ID'\nkind = 'vid:vr11'\n": "BadForm in device 0 command 0",
 }
