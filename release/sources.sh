@@ -5,6 +5,10 @@
 newline='
 '
 
+# The toolchain's command rt: by tools/rt, which goes through the crates once, where that is there.
+rt=rt
+[ ! -x "$root/tools/rt" ] || rt=$root/tools/rt
+
 # Tells why nothing can be run, and ends with the launcher's own status.
 fail() {
     echo "pmb: $*" >&2
