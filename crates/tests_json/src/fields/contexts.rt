@@ -3,7 +3,7 @@
 
 use crate::compare::same;
 use crate::fields::contexts::Says::{Assumed, Raw, Value};
-use crate::fields::says::{Text, assumed, raw, said, under, value};
+use crate::fields::says::{Text, assumed, raw, said_by, under, value};
 use pmb_command::Kind;
 use pmb_json_fields::Basis;
 use pmb_keys::VidTables;
@@ -134,10 +134,10 @@ fn voltage(profile: &Profile, start: Start, lines: &str, address: u8) -> Option<
         known.observe(&parse_line(profile, line.as_bytes()).ok()?);
     }
     let mut case = under(known.mode(address), None);
-    case.voltages.page = known.page(address);
-    case.voltages.vid = vid_of(profile, address);
+    case.page = known.page(address);
     case.basis = Basis::of(known.is_assumed(address));
-    Some(said(&case, 0x8b, Kind::Vout, &[0x00, 0x18]))
+    let vid = vid_of(profile, address);
+    Some(said_by(&case, vid, 0x8b, Kind::Vout, &[0x00, 0x18]))
 }
 
 /// The VID tables of a device, where it has some.

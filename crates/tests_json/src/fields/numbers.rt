@@ -194,10 +194,9 @@ fn linear11_kind() -> Kind {
     Kind::Number(NumberFormat::Linear11)
 }
 
-/// The kind of a number in LINEAR11 with an exponent.
-fn fixed_kind(exponent: i8) -> Result<Kind, Fail> {
-    let fixed = Linear11Fixed::new(exponent).ok().ok_or("an exponent")?;
-    Ok(Kind::Number(NumberFormat::Linear11Fixed(fixed)))
+/// The kind of a number in LINEAR11 with one exponent.
+fn fixed_kind(fixed: Linear11Fixed) -> Kind {
+    Kind::Number(NumberFormat::Linear11Fixed(fixed))
 }
 
 /// The kind of a number in DIRECT.
@@ -208,12 +207,13 @@ fn direct_kind(direct: Direct) -> Kind {
 // Under each fixed exponent a word has the same value, whether it is read or written.
 #[test]
 fn linear11(rt: HostRuntime) -> Result<(), Fail> {
+    let fixed = Linear11Fixed::new(-5).ok().ok_or("an exponent")?;
     for (number, row) in words().iter().enumerate() {
         let bytes = row.0.to_le_bytes();
         let wanted = value(row.2, row.3);
         let read = said(&plain(row.1, Access::Read), 0x88, linear11_kind(), &bytes);
         same(&rt, ("row", number), read.as_slice(), wanted.as_slice());
-        let kind = fixed_kind(-5)?;
+        let kind = fixed_kind(fixed);
         let written = said(&plain(row.1, Access::Write), 0x35, kind, &bytes);
         same(
             &rt,
@@ -343,10 +343,11 @@ fn without_a_value(rt: HostRuntime) {
 fn other_lengths(rt: HostRuntime) -> Result<(), Fail> {
     let bytes = [0x12, 0x34, 0x56, 0x78];
     let direct = Direct::new(1, 0, 0).ok().ok_or("coefficients")?;
+    let fixed = Linear11Fixed::new(-5).ok().ok_or("an exponent")?;
     let case = under(KnownMode::Known(0x17), Some(direct));
     let two_bytes = [
         linear11_kind(),
-        fixed_kind(-5)?,
+        fixed_kind(fixed),
         Kind::Number(NumberFormat::Half),
         Kind::Number(NumberFormat::Vid(VidTable::Vr12)),
         Kind::Vout,

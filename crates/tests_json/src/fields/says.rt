@@ -4,6 +4,7 @@ use arrayvec::ArrayVec;
 use pmb_command::Kind;
 use pmb_decimal::Digits;
 use pmb_json_fields::{Access, Basis, data_members};
+use pmb_keys::VidTables;
 use pmb_unknown_start::KnownMode;
 use pmb_value::Direct;
 use pmb_voltage::Voltages;
@@ -11,59 +12,73 @@ use pmb_voltage::Voltages;
 /// The members of an object, as text.
 pub(crate) type Text = ArrayVec<u8, 2048>;
 
-/// What hangs on more than the command: digits, access, what the format of an output voltage depends on,
-/// and what the device's VOUT_MODE rests on.
-#[derive(Clone, Copy, Drop)]
-pub(crate) struct Case<'a> {
+/// What hangs on more than the command: digits, access, what the format of an output voltage depends on
+/// but for VID tables, and what the device's VOUT_MODE rests on.
+#[derive(Clone, Copy)]
+pub(crate) struct Case {
     pub digits: u8,
     pub access: Access,
-    pub voltages: Voltages<'a>,
+    pub mode: KnownMode,
+    pub page: Option<u8>,
+    pub coefficients: Option<Direct>,
     pub basis: Basis,
 }
 
 /// A case in which VOUT_MODE is of no matter.
-pub(crate) fn plain<'a>(digits: u8, access: Access) -> Case<'a> {
+pub(crate) fn plain(digits: u8, access: Access) -> Case {
     Case {
         digits,
         access,
-        voltages: by(KnownMode::NoPage, None),
+        mode: KnownMode::NoPage,
+        page: Some(0),
+        coefficients: None,
         basis: Basis::Told,
     }
 }
 
-/// A reading with six digits under a VOUT_MODE, of a device without VID tables.
-pub(crate) fn under<'a>(mode: KnownMode, coefficients: Option<Direct>) -> Case<'a> {
+/// A reading with six digits under a VOUT_MODE, where PAGE is 0.
+pub(crate) fn under(mode: KnownMode, coefficients: Option<Direct>) -> Case {
     Case {
         digits: 6,
         access: Access::Read,
-        voltages: by(mode, coefficients),
+        mode,
+        page: Some(0),
+        coefficients,
         basis: Basis::Told,
     }
 }
 
-/// A VOUT_MODE where PAGE is 0.
-fn by<'a>(mode: KnownMode, coefficients: Option<Direct>) -> Voltages<'a> {
-    Voltages {
-        mode,
-        page: Some(0),
-        coefficients,
-        vid: None,
-    }
+/// What is said of data of a command of a device without VID tables, after a `:`; `?` where there are no
+/// such digits.
+pub(crate) fn said(case: &Case, code: u8, kind: Kind, bytes: &[u8]) -> Text {
+    said_by(case, None, code, kind, bytes)
 }
 
-/// What is said of a command's data, after a `:`; `?` where there are no such digits.
-pub(crate) fn said(case: &Case<'_>, code: u8, kind: Kind, bytes: &[u8]) -> Text {
+/// .. of a device that may have VID tables.
+pub(crate) fn said_by(
+    case: &Case,
+    vid: Option<&VidTables>,
+    code: u8,
+    kind: Kind,
+    bytes: &[u8],
+) -> Text {
     let mut text = Text::new();
     let Some(digits) = Digits::new(case.digits) else {
         let _ = text.try_push(b'?');
         return text;
     };
     text.push(b':');
+    let voltages = Voltages {
+        mode: case.mode,
+        page: case.page,
+        coefficients: case.coefficients,
+        vid,
+    };
     data_members(
         &mut text,
         digits,
         case.access,
-        &case.voltages,
+        &voltages,
         case.basis,
         code,
         kind,

@@ -2,7 +2,7 @@
 //! be read. The values are exact fractions, worked out apart from the code.
 
 use crate::compare::same;
-use crate::fields::says::{assumed, push, ratio, raw, said, under, value};
+use crate::fields::says::{assumed, push, ratio, raw, said, said_by, under, value};
 use arrayvec::ArrayVec;
 use pmb_command::Kind;
 use pmb_json_fields::Basis;
@@ -318,17 +318,16 @@ fn vid(rt: HostRuntime) {
     for (number, row) in vid_words().iter().enumerate() {
         let tables = vid_tables(row.0);
         let mut case = under(KnownMode::Known(row.1), None);
-        case.voltages.page = row.2;
-        case.voltages.vid = Some(&tables);
+        case.page = row.2;
         let bytes = row.3.to_le_bytes();
-        let text = said(&case, 0x8b, Kind::Vout, &bytes);
+        let text = said_by(&case, Some(&tables), 0x8b, Kind::Vout, &bytes);
         let wanted = match row.4 {
             Ok(exact) => value(exact, exact),
             Err(why) => raw(why),
         };
         same(&rt, ("row", number), text.as_slice(), wanted.as_slice());
         // a correction has no VID code, whichever the table
-        let text = said(&case, 0x22, Kind::VoutSigned, &bytes);
+        let text = said_by(&case, Some(&tables), 0x22, Kind::VoutSigned, &bytes);
         same(
             &rt,
             ("signed, row", number),
@@ -353,12 +352,12 @@ fn marked(rt: HostRuntime) {
     let text = said(&case, 0x88, kind, &[0x01, 0x00]);
     let wanted = value("1", "1");
     same(&rt, "an input voltage", text.as_slice(), wanted.as_slice());
-    case.voltages.mode = KnownMode::Known(0x97);
+    case.mode = KnownMode::Known(0x97);
     let text = said(&case, 0x25, Kind::Vout, &[0x00, 0x01]);
     let mut wanted = ratio("0.5");
     push(&mut wanted, ",\"mode\":\"assumed\"");
     same(&rt, "a factor", text.as_slice(), wanted.as_slice());
-    case.voltages.mode = KnownMode::Known(0x20);
+    case.mode = KnownMode::Known(0x20);
     let text = said(&case, 0x8b, Kind::Vout, &[0x00, 0x18]);
     let wanted = raw("vid");
     same(
