@@ -257,13 +257,13 @@ static int vid_tables(void)
             pmb_quantity found;
             const int volts = tables[i].volts + (code - tables[i].first) * tables[i].step;
             if (code < tables[i].first || code > tables[i].last) {
-                EXPECT(has_no_value(vid, code, code == 0 && tables[i].off ? PMB_OFF : PMB_NO_CODE));
+                EXPECT(has_no_value(vid, (unsigned)code, code == 0 && tables[i].off ? PMB_OFF : PMB_NO_CODE));
                 continue;
             }
-            EXPECT(encodes(vid, quantity_of(volts, 100000), PMB_OK, code));
+            EXPECT(encodes(vid, quantity_of(volts, 100000), PMB_OK, (unsigned)code));
             EXPECT(pmb_decode(&vid, (uint16_t)code, &found) == PMB_OK);
             EXPECT(found.numerator * 100000 == volts * found.denominator && found.denominator > 0);
-            EXPECT(decodes(vid, code, found.numerator, found.denominator));
+            EXPECT(decodes(vid, (unsigned)code, found.numerator, found.denominator));
         }
     }
     /* a tie between codes goes to the even one: 0.2525 V between 1 and 2 */

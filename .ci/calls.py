@@ -275,7 +275,7 @@ def told_of_kinds():
         yield kind, found
 
 
-# Devices whose output voltages can't be read, each for another reason, and two with a name.
+# Devices whose output voltages can't be read, each for another reason, and one with a name.
 RARE = """ignore = [0x50]
 [[device]]
 address = 0x58
@@ -285,8 +285,14 @@ pages = 2
 vout_mode = [0x14, 0x13]
 command = [{ code = 0xe0, name = "ASK", call = "two", paged = true }]
 """
-for address, mode in ((0x60, 0x20), (0x61, 0x40), (0x62, 0x60), (0x63, 0x97)):
+for address, mode in ((0x60, 0x20), (0x61, 0x40), (0x62, 0x60), (0x63, 0x97), (0x64, 0x20), (0x65, 0xa0)):
     RARE += f"[[device]]\naddress = {address}\npec = 'optional'\nvout_mode = {mode}\n"
+    RARE += "vid = 'vr12'\n" if address == 0x64 else ""
+# Words of them, with the command's code: VID without a table, DIRECT without coefficients, a number and
+# none in half precision, a factor of VOUT_COMMAND, a VID code that is off and one that is none, and a
+# factor under VID.
+RARE_WORDS = [(0x60, "21", "00 A 18"), (0x61, "21", "00 A 18"), (0x62, "21", "00 A 18"), (0x62, "21", "00 A 7c"),
+              (0x63, "25", "00 A 02"), (0x64, "21", "00 A 00"), (0x64, "21", "00 A 18"), (0x65, "25", "00 A 18")]
 
 
 def compare_kinds_of_objects(program):
@@ -298,8 +304,8 @@ def compare_kinds_of_objects(program):
     reasons = re.findall("(?m)^\\| `([A-Z][A-Za-z]+)` \\|.*\\| `(S [^|`]*)` \\|", page)
     for _, capture in reasons:
         compare_whole(program, "json", sample, capture.encode())
-    lines = [f"S {at << 1:02x} A 21 A 00 A 18 A P" for at in (0x60, 0x61, 0x62, 0x63)]
-    lines += [f"S {at << 1:02x} A 8b A S {at << 1 | 1:02x} A 00 A 18 N P" for at in range(0x60, 0x64)]
+    lines = [f"S {at << 1:02x} A {code} A {word} A P" for at, code, word in RARE_WORDS]
+    lines += [f"S {at << 1:02x} A {code} A S {at << 1 | 1:02x} A {word} N P" for at, code, word in RARE_WORDS]
     lines += ["S b0 A e0 A 01 A 02 A S b1 A 05 A 06 N P", "S 19 A b0 N P", "S 19 N P", "S a0 N P"]
     lines += ["S c0 A 03 A S b0 A 03 A P", "S c0 A 03 A S b0 A 21 N P", "S b0 A 88 A S b1 N P"]
     lines += ["S b0 hm", "S b0 A 03 A 46 N P", "S b0 A 03 A 47 N P", "S b0 N P", "S b0 A 7a A 80 A P"]

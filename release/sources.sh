@@ -6,8 +6,8 @@ newline='
 '
 
 # The toolchain's command rt: by tools/rt, which goes through the crates once, where that is there.
-rt=rt
-[ ! -x "$root/tools/rt" ] || rt=$root/tools/rt
+# shellcheck disable=SC2034 # (who reads it asks for this)
+if [ -x "$root/tools/rt" ]; then rt=$root/tools/rt; else rt=rt; fi
 
 # Tells why nothing can be run, and ends with the launcher's own status.
 fail() {
