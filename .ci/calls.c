@@ -269,6 +269,7 @@ static int vid_tables(void)
     /* a tie between codes goes to the even one: 0.2525 V between 1 and 2 */
     EXPECT(encodes(format_of(PMB_VID_TABLE, 0, PMB_VID_VR12, 0, 0, 0), quantity_of(101, 400), PMB_OK, 2));
     EXPECT(decodes(format_of(PMB_VID_TABLE, 0, PMB_VID_VR12, 0, 0, 0), 0x97, 1, 1));
+    EXPECT(refuses(format_of(PMB_VID_TABLE, 0, 0, 1, 0, 0), PMB_BAD_FORMAT));
     for (number = PMB_VID_NVIDIA195MV + 1; number < 256; number++)
         EXPECT(refuses(format_of(PMB_VID_TABLE, 0, number, 1, 0, 0), PMB_BAD_FORMAT));
     return 0;

@@ -117,14 +117,14 @@ enum pmb_kind {
     PMB_UDIRECT = 9
 };
 
-/* The VID tables (docs/numbers.md has their codes and voltages). */
+/* The VID tables (docs/numbers.md has their codes and voltages). 0 is none of them. */
 enum pmb_vid_table {
-    PMB_VID_VR11 = 0,
-    PMB_VID_VR12 = 1,
-    PMB_VID_VR13 = 2,
-    PMB_VID_IMVP9 = 3,
-    PMB_VID_AMD625MV = 4,
-    PMB_VID_NVIDIA195MV = 5
+    PMB_VID_VR11 = 1,
+    PMB_VID_VR12 = 2,
+    PMB_VID_VR13 = 3,
+    PMB_VID_IMVP9 = 4,
+    PMB_VID_AMD625MV = 5,
+    PMB_VID_NVIDIA195MV = 6
 };
 
 /* A number format: its kind, and the fields that the kind asks for. Other fields are ignored. */

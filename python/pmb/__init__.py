@@ -324,7 +324,7 @@ class Format(NamedTuple):
             raise _wrong_type("table", "a str", table)
         if table not in _TABLES:
             raise Error("BadFormat", "format")
-        return cls(_VID, mode=_TABLES.index(table))
+        return cls(_VID, mode=1 + _TABLES.index(table))
 
     @classmethod
     def direct(cls, m: int, b: int, r: int, unsigned: bool = False) -> "Format":

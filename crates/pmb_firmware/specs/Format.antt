@@ -19,15 +19,15 @@ some_direct f = if is_zero f.m then Err NoCoefficients else named_direct false f
 abbrev pub vout_named : Bool → PmbFormat → Result NumberFormat FormatFault
 vout_named signed f = if f.mode / 2 ^ 5 == 2 then some_direct f else mode_format (format_of f.mode signed None)
 
--- the VID table of a number
+-- the VID table of a number, from 1 on: a struct of zeros names none
 abbrev pub vid_named : ℕ → Result NumberFormat FormatFault
 vid_named table =
-    if table == 0 then Ok (Vid Vr11) else (
-    if table == 1 then Ok (Vid Vr12) else (
-    if table == 2 then Ok (Vid Vr13) else (
-    if table == 3 then Ok (Vid Imvp9) else (
-    if table == 4 then Ok (Vid Amd625mv) else (
-    if table == 5 then Ok (Vid Nvidia195mv) else
+    if table == 1 then Ok (Vid Vr11) else (
+    if table == 2 then Ok (Vid Vr12) else (
+    if table == 3 then Ok (Vid Vr13) else (
+    if table == 4 then Ok (Vid Imvp9) else (
+    if table == 5 then Ok (Vid Amd625mv) else (
+    if table == 6 then Ok (Vid Nvidia195mv) else
     Err BadFormat)))))
 
 -- by the kind, and the numbers that it asks for

@@ -25,8 +25,8 @@ pub struct PmbFormat {
     pub kind: u8,
     /// The exponent of two, from -16 to 15, of kinds 1, 2 and 3.
     pub exponent: i8,
-    /// VOUT_MODE, of kinds 5 and 6. The VID table of kind 8: 0 for `vr11`, 1 for `vr12`, 2 for `vr13`,
-    /// 3 for `imvp9`, 4 for `amd625mv`, 5 for `nvidia195mv`.
+    /// VOUT_MODE, of kinds 5 and 6. The VID table of kind 8: 1 for `vr11`, 2 for `vr12`, 3 for `vr13`,
+    /// 4 for `imvp9`, 5 for `amd625mv`, 6 for `nvidia195mv`.
     pub mode: u8,
     /// The exponent of ten of DIRECT, from -9 to 9.
     pub r: i8,
@@ -37,8 +37,8 @@ pub struct PmbFormat {
 }
 
 impl PmbFormat {
-    /// The format that it names. The fault is `BadFormat` for a kind above 9 and for a VID table above
-    /// 5, and otherwise what is wrong with the numbers.
+    /// The format that it names. The fault is `BadFormat` for a kind above 9 and for a VID table that
+    /// is not 1 to 6, and otherwise what is wrong with the numbers.
     pub fn named(&self) -> Result<NumberFormat, FormatFault>
         ensures { result ≡ named self.now }
     {
@@ -115,12 +115,12 @@ fn vid(table: u8) -> Result<NumberFormat, FormatFault>
     ensures { result ≡ vid_named table }
 {
     match table {
-        0 => Ok(NumberFormat::Vid(VidTable::Vr11)),
-        1 => Ok(NumberFormat::Vid(VidTable::Vr12)),
-        2 => Ok(NumberFormat::Vid(VidTable::Vr13)),
-        3 => Ok(NumberFormat::Vid(VidTable::Imvp9)),
-        4 => Ok(NumberFormat::Vid(VidTable::Amd625mv)),
-        5 => Ok(NumberFormat::Vid(VidTable::Nvidia195mv)),
+        1 => Ok(NumberFormat::Vid(VidTable::Vr11)),
+        2 => Ok(NumberFormat::Vid(VidTable::Vr12)),
+        3 => Ok(NumberFormat::Vid(VidTable::Vr13)),
+        4 => Ok(NumberFormat::Vid(VidTable::Imvp9)),
+        5 => Ok(NumberFormat::Vid(VidTable::Amd625mv)),
+        6 => Ok(NumberFormat::Vid(VidTable::Nvidia195mv)),
         _ => Err(FormatFault::BadFormat),
     }
 }
