@@ -1,5 +1,6 @@
 //! Tests of lines of JSON: members (`pmb_json_text`), what is said of a command's data (`pmb_json_fields`), and
-//! the objects of a capture (`pmb_json_objects`, `pmb_facts`); and of the lines of `log` (`pmb_log_lines`).
+//! the objects of a capture (`pmb_json_objects`, `pmb_facts`); of the lines of `log` (`pmb_log_lines`); and of what
+//! the fields of data say (`pmb_meaning`).
 #![tactic(auto)]
 
 #[cfg(test)]
@@ -10,6 +11,8 @@ mod facts;
 mod fields;
 #[cfg(test)]
 mod log_lines;
+#[cfg(test)]
+mod meaning;
 #[cfg(test)]
 mod object_lines;
 #[cfg(test)]

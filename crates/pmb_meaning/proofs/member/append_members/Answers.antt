@@ -1,0 +1,45 @@
+-- The fields so far, and one more.
+use Rattle.std.proofs.Common.{[], ◌∷◌, ◌++◌, ◌∙◌, ap, take, get_or, refl, rules, arith}
+use Rattle.pmb_json_text.specs.declared.item_order.ItemOrder.{ItemOrder}
+use Rattle.pmb_json_text.specs.declared.item_order.ItemOrder.TheVariants.{First}
+use Rattle.pmb_json_text.specs.Member.{is_key, members_text}
+use Rattle.pmb_meaning.specs.Field.{SaidField, all_parts, field_parts}
+use Rattle.pmb_meaning.specs.Object.{field_member}
+use Rattle.pmb_meaning.proofs.ObjectLemmas.{no_member}
+use Rattle.pmb_meaning.proofs.RowLemmas.{passes_at}
+use Rattle.pmb_meaning.proofs.Turns.{appended_more, no_field, fields_room_left, fields_room_more, place_more, said_members}
+use Rattle.pmb_meaning.proofs.Turns.{said_members_in_parts, text_more}
+use Rattle.pmb_meaning.proofs.member.append_members.Goals as goal
+
+pub loop-field-init : goal.loop-field-init
+loop-field-init g c = record { text = no_member c.args.out.now.items; place = refl; short = omega arith }
+
+pub append_field-requires : goal.append_field-requires
+append_field-requires g c = (
+  search rules,
+  (
+    passes_at (λ (f : SaidField). is_key f.key) field_parts c.args.fields.now c.loop-field.field-index no_field
+        c.requires.keys c.loop-field-test.true,
+    omega (
+      arith,
+      fields_room_left c.args.fields.now c.loop-field.field-index no_field c.loop-field-test.true,
+      c.loop-field.invariant.short,
+      c.requires.room,
+    ),
+  ),
+)
+
+pub loop-field-preserved : goal.loop-field-preserved
+loop-field-preserved g c =
+    let fields = c.args.fields.now in
+    let i = c.loop-field.field-index in
+    record {
+      text =
+          appended_more c.args.out.now.items (said_members First (all_parts (take i fields))) _
+          c.loop-field.invariant.text
+          (c.append_field.ensures.member ∙ ap (λ (p : ItemOrder). c.loop-field.out.items ++ members_text p (field_member
+          (field_parts (get_or fields i no_field)) ∷ [])) c.loop-field.invariant.place)
+          (text_more said_members said_members_in_parts field_parts fields i no_field c.loop-field-test.true);
+      place = place_more fields i no_field c.loop-field-test.true;
+      short = omega (arith, fields_room_more fields i no_field c.loop-field-test.true, c.append_field.ensures.short, c.loop-field.invariant.short);
+    }

@@ -1,0 +1,10 @@
+pub mod Names
+pub mod Field
+pub mod Data
+pub mod Layout
+pub mod Tables
+pub mod Meaning
+pub mod Object
+pub mod Words
+pub mod Laws
+pub mod machine
