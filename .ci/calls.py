@@ -456,7 +456,7 @@ def compare_kinds():
         ((pmb.Format.direct(0, 0, 99), 1), ("ZeroSlope", "format")),
         ((pmb.Format.direct(1, 0, 999), 1), ("BadFormat", "format")),
         ((pmb.Format(10), 1), ("BadFormat", "format")),
-        ((pmb.Format(8, mode=6), 1), ("BadFormat", "format")),
+        ((pmb.Format(8, mode=7), 1), ("BadFormat", "format")),
         ((pmb.Format.direct(0, 0, 99, unsigned=True), 1), ("ZeroSlope", "format")),
         (("vid:vr14", "x"), ("BadFormat", "format")),
         # (the code 0, which is off, is no fault of the format)
@@ -479,7 +479,7 @@ def compare_kinds():
         ((pmb.Format.vid("vr12"), 0), ("Off", "code")),
         ((pmb.Format.vid("vr12"), 0x100), ("NoCode", "code")),
         ((pmb.Format.vid("vr12"), 0x10000), ("BadCode", "code")),
-        ((pmb.Format(8, mode=6), 0x10000), ("BadFormat", "format")),
+        ((pmb.Format(8, mode=0), 0x10000), ("BadFormat", "format")),
         ((unsigned, 0xFFFF), 65535),
         # (beside a VOUT_MODE a word has no sign for an unsigned command alone)
         ((pmb.Format.vout(0x40, direct=unsigned), 0xFFFF), 65535),
