@@ -4,7 +4,7 @@
 use Rattle.std.proofs.Common.{◌≡◌, Bool, true, false, not, ◌&&◌, ◌||◌, nat_eq, refl, subst, sym}
 use Rattle.std.proofs.lemmas.Bool.{and_parts}
 use Rattle.pmb_command.specs.declared.entry.Kind.{Kind}
-use Rattle.pmb_command.specs.declared.entry.Kind.TheVariants.{Raw, Number, Vout, VoutSigned, Status}
+use Rattle.pmb_command.specs.declared.entry.Kind.TheVariants.{Raw, Number, Vout, VoutSigned, Status, Text}
 use Rattle.pmb_command.specs.Bus.{IsFitting, KeepsRanges}
 use Rattle.pmb_command.specs.Commands.{standard_entry}
 use Rattle.pmb_command.specs.Entry.{EntryParts}
@@ -23,6 +23,7 @@ raw_kind (Number format) is = cc
 raw_kind Vout is = cc
 raw_kind VoutSigned is = cc
 raw_kind Status is = cc
+raw_kind Text is = cc
 
 -- what is not both is not the second where it is the first
 not_both : (a b : Bool) → not (a && b) ≡ true → a ≡ true → b ≡ false

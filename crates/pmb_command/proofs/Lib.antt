@@ -5,4 +5,5 @@ pub mod NameLemmas
 pub mod RowLemmas
 pub mod StandardLemmas
 pub mod StatusLemmas
+pub mod UnitLemmas
 pub mod WireLemmas

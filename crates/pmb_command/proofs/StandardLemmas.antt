@@ -2,12 +2,12 @@
 -- entry. For `standard`, `by_name` and the laws `standard_entries_are_sound` and
 -- `names_are_of_entries`. An entry is found by its code, and its name leads back to it, so no two
 -- have one name.
-use Rattle.std.proofs.Common.{◌≡◌, ℕ, ◌<◌, Bool, true, false, cond, nat_eq, nat_lt, Option, Some, None, List, [], ◌∷◌}
+use Rattle.std.proofs.Common.{◌≡◌, ℕ, ◌<◌, Bool, true, false, ◌&&◌, cond, nat_eq, nat_lt, Option, Some, None, List, [], ◌∷◌}
 use Rattle.std.proofs.Common.{refl, sym, ap, ◌∙◌, subst}
-use Rattle.std.specs.Prelude.{find, filter_map, option_map}
+use Rattle.std.specs.Prelude.{IfSome, find, filter_map, option_map}
 use Rattle.std.specs.List.{cons_option, list_all}
 use Rattle.std.specs.Str.{bytes_eq}
-use Rattle.std.proofs.lemmas.Bool.{eqb-true, ltb-true}
+use Rattle.std.proofs.lemmas.Bool.{and_parts, eqb-true, ltb-true}
 use Rattle.std.proofs.lemmas.Slice.Eq.{bytes_eq-Decides}
 use Rattle.pmb_command.specs.Entry.{EntryParts}
 use Rattle.pmb_command.specs.Commands.{code_of_name, from_to, has_name, standard_entries, standard_entry, standard_rows}
@@ -15,13 +15,14 @@ use Rattle.pmb_value.specs.NumberFormat.{IsFormat}
 use Rattle.pmb_value.specs.declared.number_format.NumberFormat.{NumberFormat}
 use Rattle.pmb_value.specs.declared.number_format.NumberFormat.TheVariants as formats
 use Rattle.pmb_command.specs.declared.entry.Kind.{Kind}
-use Rattle.pmb_command.specs.declared.entry.Kind.TheVariants.{Raw, Number, Vout, VoutSigned, Status}
-use Rattle.pmb_command.specs.Bus.{IsFitting, KeepsRanges}
-use Rattle.pmb_command.specs.Fitting.{is_fitting}
-use Rattle.pmb_command.specs.Names.{IsNameOf, is_name}
+use Rattle.pmb_command.specs.declared.entry.Kind.TheVariants.{Raw, Number, Vout, VoutSigned, Status, Text}
+use Rattle.pmb_command.specs.Bus.{IsFitting, IsUnitOf, KeepsRanges}
+use Rattle.pmb_command.specs.Fitting.{is_fitting, is_number}
+use Rattle.pmb_command.specs.Names.{IsNameOf, is_name, is_unit}
 use Rattle.pmb_command.specs.Standard.{IsNamed, IsStandardAt, is_general, is_linear11}
+use Rattle.pmb_command.specs.Units.{standard_unit, unit_rows}
 use Rattle.pmb_command.proofs.FittingLemmas.{fitting_parts}
-use Rattle.pmb_command.proofs.NameLemmas.{fitting_name}
+use Rattle.pmb_command.proofs.NameLemmas.{fitting_name, printable_text}
 use Rattle.pmb_command.proofs.Finding.{find_among, find_passes, option_map-cond}
 
 -- the entry of a code has that code
@@ -104,11 +105,34 @@ general_ranges (Number format) is = general_format format is
 general_ranges Vout is = tt
 general_ranges VoutSigned is = tt
 general_ranges Status is = tt
+general_ranges Text is = tt
 
 -- the parts of an entry go together
 standard_fits : (c : ℕ) (e : EntryParts) → standard_entry c ≡ Some e → IsFitting e
 standard_fits c e has =
     fitting_parts e (of_each is_fitting every_entry_fits c e has) (general_ranges e.kind (standard_is_general c e has))
+
+-- a unit is that of a number, and printable
+abbrev unit_fits : Kind → Option (List ℕ) → Bool
+unit_fits kind None = true
+unit_fits kind (Some unit) = is_number kind && is_unit unit
+
+every_unit_fits : list_all (λ e. unit_fits e.kind (standard_unit e.code)) standard_entries ≡ true
+unfolding standard_entries standard_rows unit_rows
+every_unit_fits = refl
+
+fitting_unit : (kind : Kind) (unit : Option (List ℕ)) → unit_fits kind unit ≡ true → IfSome unit (IsUnitOf kind)
+fitting_unit kind None fits = tt
+fitting_unit kind (Some unit) fits =
+    let parts = and_parts (is_number kind) (is_unit unit) fits in
+    record { number = parts.0; text = printable_text 16 unit parts.1 }
+
+-- the unit of an entry is that of a number
+standard_unit_fits : (c : ℕ) (e : EntryParts) → standard_entry c ≡ Some e → IfSome (standard_unit c) (IsUnitOf e.kind)
+standard_unit_fits c e has =
+    subst (λ n. IfSome (standard_unit n) (IsUnitOf e.kind)) (standard_code c e has)
+    (fitting_unit e.kind (standard_unit e.code)
+    (of_each (λ e. unit_fits e.kind (standard_unit e.code)) every_unit_fits c e has))
 
 -- the entries of all codes, in order, are those of the table
 pub entries_of_all_codes : filter_map standard_entry (from_to 0x00 0xff) ≡ standard_entries
@@ -183,6 +207,7 @@ standard_entry_at c e has = record {
     fitting = standard_fits c e has;
   };
   general = standard_is_general c e has;
+  unit = standard_unit_fits c e has;
   by_name = standard_by_name c e has;
 }
 

@@ -1,15 +1,17 @@
 -- What an accepted bus is.
-use Rattle.std.specs.Prelude.{◌≡◌, ◌≢◌, ℕ, ◌<◌, ◌≤◌, true, false, IfSome, Option, Some, None, List, length}
-use Rattle.std.specs.List.{AllByRecursion}
+use Rattle.std.specs.Prelude.{◌≡◌, ◌≢◌, ℕ, suc, ◌<◌, ◌≤◌, true, false, IfSome, Option, Some, None, List, [], ◌∷◌, length, map}
+use Rattle.std.specs.List.{AllByRecursion, IsDistinct}
+use Rattle.std.specs.Str.{bytes_eq}
 use Rattle.pmb_value.specs.NumberFormat.{IsFormat}
 use Rattle.pmb_command.specs.declared.entry.Kind.{Kind}
-use Rattle.pmb_command.specs.declared.entry.Kind.TheVariants.{Raw, Number, Vout, VoutSigned, Status}
+use Rattle.pmb_command.specs.declared.entry.Kind.TheVariants.{Raw, Number, Vout, VoutSigned, Status, Text}
 use Rattle.pmb_command.specs.Entry.{EntryParts}
 use Rattle.pmb_command.specs.Commands.{standard_entry}
-use Rattle.pmb_command.specs.Fitting.{are_kept, calls_fit, has_form, is_always_raw, is_fixed, is_length, kind_fits}
-use Rattle.pmb_command.specs.Fitting.{reads_data, register_form, value_form, ways_agree}
-use Rattle.pmb_command.specs.Names.{IsDeviceName, IsNameOf}
+use Rattle.pmb_command.specs.Fitting.{are_kept, bit_count, calls_fit, has_form, is_always_raw, is_fixed, is_length}
+use Rattle.pmb_command.specs.Fitting.{is_number, kind_fits, reads_data, register_form, value_form, ways_agree}
+use Rattle.pmb_command.specs.Names.{IsDeviceName, IsNameOf, IsUnit, is_name}
 use Rattle.pmb_command.specs.Parts.{CommandParts, DeviceParts, HaveOwnAddresses, HaveOwnCodes, InitialParts, Same, Each}
+use Rattle.pmb_command.specs.Parts.{NamedBit}
 use Rattle.pmb_command.specs.Parts.{VidParts, OfPages, OfTypes, all_same, has_one_mode}
 
 -- An address that a device may have (SMBus 3.0 appendix C): 08h to 77h, and not 0ch, the Alert
@@ -26,6 +28,7 @@ KeepsRanges (Number format) = IsFormat format
 KeepsRanges Vout = Unit {0}
 KeepsRanges VoutSigned = Unit {0}
 KeepsRanges Status = Unit {0}
+KeepsRanges Text = Unit {0}
 
 -- The forms, the kind and the pages of a command go together.
 pub record IsFitting (e : EntryParts) : Type 0 where
@@ -40,7 +43,7 @@ pub record IsFitting (e : EntryParts) : Type 0 where
   -- each form of PAGE, CLEAR_FAULTS, VOUT_MODE, COEFFICIENTS and STATUS_CML is the standard's, or
   -- there is none
   pub fixed : is_fixed e.code ≡ true → are_kept e.shape (standard_entry e.code) ≡ true
-  -- PAGE, CLEAR_FAULTS, VOUT_MODE and COEFFICIENTS are no numbers and no status bits
+  -- PAGE, CLEAR_FAULTS, VOUT_MODE and COEFFICIENTS are no numbers, no status bits and no text
   pub raw : is_always_raw e.code ≡ true → e.kind ≡ Raw
   -- PAGE has one value for all pages
   pub page : e.code ≡ 0x00 → e.paged ≡ false
@@ -74,16 +77,47 @@ HasTableForEach pages None = Unit
 HasTableForEach pages (Some (OfPages tables)) = length tables ≡ pages
 HasTableForEach pages (Some (OfTypes tables)) = length tables ≡ 32
 
+-- The unit of numbers: 1 to 16 printable characters. What is no number has none.
+pub record IsUnitOf (kind : Kind) (unit : List ℕ) : Type 0 where
+  pub number : is_number kind ≡ true
+  pub text : IsUnit unit
+
+-- A bit of a status register that has a name of its own: one of its eight or sixteen bits.
+pub record IsBit (e : EntryParts) (b : NamedBit) : Type 0 where
+  pub status : e.kind ≡ Status
+  pub within : b.bit < bit_count (value_form e.shape)
+  pub name : is_name b.name ≡ true
+
+-- bits are ascending, from the least that the first one may be
+abbrev pub AreAscending : ℕ → List NamedBit → Type 0
+AreAscending least [] = Unit
+AreAscending least (b ∷ bits) = (least ≤ b.bit) × AreAscending (suc b.bit) bits
+
+-- no two bits have one name
+abbrev pub HaveOwnNames : List NamedBit → Type 0
+HaveOwnNames bits = IsDistinct bytes_eq (map (λ b. b.name) bits)
+
+-- The bits of a status register that have names of their own, from the lowest up. What is no status
+-- register has none.
+pub record AreBits (e : EntryParts) (bits : List NamedBit) : Type 0 where
+  pub few : length bits ≤ 16
+  pub each : AllByRecursion (IsBit e) bits
+  pub ascending : AreAscending 0 bits
+  pub own_names : HaveOwnNames bits
+
 -- A command that a device may have: a code, a name, and parts that go together.
 pub record IsEntry (e : EntryParts) : Type 0 where
   pub byte : e.code < 256
   pub name : IsNameOf e.code e.name
   pub fitting : IsFitting e
 
--- Such a command, and what it holds at first where a profile says.
+-- Such a command; what it holds at first where a profile says; its unit where it has one; and the bits
+-- that have names of their own.
 pub record IsCommand (c : CommandParts) : Type 0 where
   pub entry : IsEntry c.entry
   pub initial : IfSome c.initial (AreInitial c.entry)
+  pub unit : IfSome c.unit (IsUnitOf c.entry.kind)
+  pub bits : AreBits c.entry c.bits
 
 -- A device that a bus may have.
 pub record IsDevice (d : DeviceParts) : Type 0 where
@@ -97,6 +131,8 @@ pub record IsDevice (d : DeviceParts) : Type 0 where
   pub bytes : AllByRecursion (λ mode. mode < 256) d.modes
   pub one_mode : has_one_mode d.commands ≡ true → all_same d.modes ≡ true
   pub tables : HasTableForEach d.pages d.vid
+  -- a device that has phases has 1 to 255
+  pub phases : IfSome d.phases (λ n. (1 ≤ n) × (n ≤ 255))
   pub own_codes : HaveOwnCodes d.commands
   pub commands : AllByRecursion IsCommand d.commands
   -- what commands hold at first is told for each page, if by items

@@ -6,7 +6,7 @@ use Rattle.pmb_command.specs.declared.form.Form.{Form}
 use Rattle.pmb_command.specs.declared.form.Form.TheVariants.{Zero, One, Two, Four, Eight, Block}
 use Rattle.pmb_command.specs.declared.form.Shape.{Shape}
 use Rattle.pmb_command.specs.declared.entry.Kind.{Kind}
-use Rattle.pmb_command.specs.declared.entry.Kind.TheVariants.{Raw, Number, Vout, VoutSigned, Status}
+use Rattle.pmb_command.specs.declared.entry.Kind.TheVariants.{Raw, Number, Vout, VoutSigned, Status, Text}
 use Rattle.pmb_command.specs.Entry.{EntryParts}
 use Rattle.pmb_command.specs.Commands.{standard_entry}
 
@@ -60,17 +60,18 @@ abbrev pub are_kept : Shape → Option EntryParts → Bool
 are_kept s None = false
 are_kept s (Some e) = is_kept s.write e.shape.write && (is_kept s.read e.shape.read && is_kept s.call e.shape.call)
 
--- PAGE, CLEAR_FAULTS, VOUT_MODE and COEFFICIENTS, which are no numbers and no status bits
+-- PAGE, CLEAR_FAULTS, VOUT_MODE and COEFFICIENTS, which are no numbers, no status bits and no text
 abbrev pub is_always_raw : ℕ → Bool
 is_always_raw code = list_any (nat_eq code) (0x00 ∷ 0x03 ∷ 0x20 ∷ 0x30 ∷ [])
 
--- the data are bytes with no number in them
+-- the data are bytes of which nothing more is known
 abbrev pub is_raw : Kind → Bool
 is_raw Raw = true
 is_raw (Number format) = false
 is_raw Vout = false
 is_raw VoutSigned = false
 is_raw Status = false
+is_raw Text = false
 
 -- the data are status bits
 abbrev pub is_status_kind : Kind → Bool
@@ -79,6 +80,16 @@ is_status_kind (Number format) = false
 is_status_kind Vout = false
 is_status_kind VoutSigned = false
 is_status_kind Status = true
+is_status_kind Text = false
+
+-- the data are numbers
+abbrev pub is_number : Kind → Bool
+is_number Raw = false
+is_number (Number format) = true
+is_number Vout = true
+is_number VoutSigned = true
+is_number Status = false
+is_number Text = false
 
 -- the form of a command's value: in which it is read, or else written
 abbrev pub value_form : Shape → Option Form
@@ -96,6 +107,11 @@ kind_fits (Number format) form = is_form Two form
 kind_fits Vout form = is_form Two form
 kind_fits VoutSigned form = is_form Two form
 kind_fits Status form = is_form One form || is_form Two form
+kind_fits Text form = true
+
+-- how many bits a status register of a form has: 8 in one byte, and 16 in two
+abbrev pub bit_count : Option Form → ℕ
+bit_count form = if is_form One form then 8 else 16
 
 -- the forms, the kind and the pages of a command go together
 abbrev pub is_fitting : EntryParts → Bool

@@ -1,6 +1,7 @@
 pub mod Entry
 pub mod Commands
 pub mod StatusBits
+pub mod Units
 pub mod Names
 pub mod Fitting
 pub mod Wire

@@ -20,6 +20,8 @@ pub enum Kind {
     VoutSigned,
     /// Status bits.
     Status,
+    /// Bytes that are the characters of a text.
+    Text,
 }
 
 /// A command of a device: its code, its name, its forms, what its data stand for, and whether it

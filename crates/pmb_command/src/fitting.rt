@@ -2,10 +2,10 @@
 //!
 //! Its rows: `tests/rows/forms.txt`.
 
-ghost use Rattle.std.specs.Prelude.{◌≡◌, option_map, IsTrue};
+ghost use Rattle.std.specs.Prelude.{◌≡◌, ◌≤◌, option_map, IsTrue};
 ghost use Rattle.pmb_command.specs.Bus.{IsFitting, KeepsRanges};
 ghost use Rattle.pmb_command.specs.Entry.{entry_parts};
-ghost use Rattle.pmb_command.specs.Fitting.{has_form, ways_agree, reads_data, calls_fit, is_fixed, is_kept, are_kept, is_always_raw, is_raw, value_form, is_form, kind_fits, is_fitting, register_form, is_length};
+ghost use Rattle.pmb_command.specs.Fitting.{has_form, ways_agree, reads_data, calls_fit, is_fixed, is_kept, are_kept, is_always_raw, is_raw, is_number, value_form, is_form, kind_fits, bit_count, is_fitting, register_form, is_length};
 
 use crate::commands::standard;
 use crate::entry::{Entry, Kind};
@@ -79,7 +79,7 @@ fn are_kept(shape: Shape, standard: Option<Entry>) -> bool
     }
 }
 
-/// Whether the command is no number and no status bits: PAGE, CLEAR_FAULTS, VOUT_MODE and
+/// Whether the command is no number, no status bits and no text: PAGE, CLEAR_FAULTS, VOUT_MODE and
 /// COEFFICIENTS.
 const fn is_always_raw(code: u8) -> bool
     ensures { result ≡ is_always_raw code }
@@ -87,11 +87,18 @@ const fn is_always_raw(code: u8) -> bool
     matches!(code, 0x00 | 0x03 | 0x20 | 0x30)
 }
 
-/// Whether the data are bytes with no number in them.
+/// Whether the data are bytes of which nothing more is known.
 const fn is_raw(kind: Kind) -> bool
     ensures { result ≡ is_raw kind }
 {
     matches!(kind, Kind::Raw)
+}
+
+/// Whether the data are numbers.
+pub const fn is_number(kind: Kind) -> bool
+    ensures { result ≡ is_number kind }
+{
+    matches!(kind, Kind::Number(_) | Kind::Vout | Kind::VoutSigned)
 }
 
 /// The form of a command's value: in which it is read, or else written.
@@ -120,9 +127,21 @@ fn kind_fits(kind: Kind, form: Option<Form>) -> bool
     ensures { result ≡ kind_fits kind form }
 {
     match kind {
-        Kind::Raw => true,
+        Kind::Raw | Kind::Text => true,
         Kind::Number(_) | Kind::Vout | Kind::VoutSigned => is_form(Form::Two, form),
         Kind::Status => is_form(Form::One, form) || is_form(Form::Two, form),
+    }
+}
+
+/// How many bits the status register of a command has: 8 where its value has one byte, else 16.
+pub fn bit_count(shape: Shape) -> usize
+    ensures value { result ≡ bit_count (value_form shape) }
+    ensures few { result ≤ 16 }
+{
+    if is_form(Form::One, value_form(shape)) {
+        8
+    } else {
+        16
     }
 }
 
@@ -132,7 +151,7 @@ fn keeps_ranges(kind: &Kind)
 {
     match kind {
         Kind::Number(format) => format.keeps_ranges(),
-        Kind::Raw | Kind::Vout | Kind::VoutSigned | Kind::Status => {}
+        Kind::Raw | Kind::Vout | Kind::VoutSigned | Kind::Status | Kind::Text => {}
     }
 }
 

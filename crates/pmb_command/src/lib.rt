@@ -1,8 +1,8 @@
 //! The commands of PMBus: in which forms they are written, read and called, and what their data
 //! stand for.
 //!
-//! [`standard`] and [`by_name`] are the standard's command table, and [`bit_name`] has the names of
-//! status bits. [`is_fitting`] says which forms, kinds and pages go together, and [`register_form`]
+//! [`standard`] and [`by_name`] are the standard's command table, [`standard_unit`] has the units of
+//! its numbers, and [`bit_name`] the names of status bits. [`is_fitting`] says which forms, kinds and pages go together, and [`register_form`]
 //! and [`is_length`] what a register holds. A [`Form`] says how many bytes its data have and how they
 //! go over the bus, a [`PecMode`] whether a packet error code may follow. The definitions of the
 //! parts of a profile, and of what an accepted bus is, stand here too.
@@ -25,11 +25,13 @@ pub mod laws;
 mod name;
 mod pec_mode;
 mod status_bits;
+mod units;
 
 pub use commands::{by_name, standard};
 pub use entry::{Entry, Kind};
-pub use fitting::{is_fitting, is_length, register_form};
+pub use fitting::{bit_count, is_fitting, is_length, is_number, register_form};
 pub use form::{Form, Shape};
-pub use name::{Name, is_device_name, is_name, name_of_code};
+pub use name::{Name, is_device_name, is_name, is_unit, name_of_code};
 pub use pec_mode::PecMode;
 pub use status_bits::bit_name;
+pub use units::standard_unit;

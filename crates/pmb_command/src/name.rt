@@ -1,11 +1,11 @@
-//! The names of commands and devices.
+//! The names of commands and devices, and the texts of units.
 //!
 //! Its rows: `tests/rows/profiles.txt`.
 
 ghost use Rattle.std.specs.Prelude.{◌≡◌, ◌<◌, ℕ, IsTrue, slice_index};
 ghost use Rattle.std.specs.List.{list_all};
 ghost use Rattle.hex.specs.Hex.{lower_digits};
-ghost use Rattle.pmb_command.specs.Names.{IsDeviceName, IsNameOf, code_name, is_device_name, is_name, is_name_byte, is_printable};
+ghost use Rattle.pmb_command.specs.Names.{IsDeviceName, IsNameOf, IsUnit, code_name, is_device_name, is_name, is_name_byte, is_printable, is_unit};
 
 use arrayvec::ArrayString;
 
@@ -55,6 +55,15 @@ pub fn is_device_name(text: &str) -> bool
     ensures fits { IsTrue result → IsDeviceName text.now }
 {
     !text.is_empty() && text.len() <= 32 && has_printable_bytes(text)
+}
+
+/// Whether a text may be a unit: 1 to 16 characters from 20h to 7eh.
+#[tactic(auto, using(crate::proofs::NameLemmas::unit_text))]
+pub fn is_unit(text: &str) -> bool
+    ensures value { result ≡ is_unit text.now }
+    ensures fits { IsTrue result → IsUnit text.now }
+{
+    !text.is_empty() && text.len() <= 16 && has_printable_bytes(text)
 }
 
 /// A digit below 16, in lower case.

@@ -43,6 +43,7 @@ fn kind_word(kind: &Kind) -> &'static str {
         Kind::Vout => "vout",
         Kind::VoutSigned => "vout_signed",
         Kind::Status => "status",
+        Kind::Text => "text",
     }
 }
 
@@ -241,7 +242,7 @@ fn kind_hint(parts: &Parts<'_>, lines: &mut Hints) -> bool {
     let (key, form) = parts.value_form();
     let kind = parts.kind;
     let needed = match kind {
-        "raw" => return false,
+        "raw" | "text" => return false,
         "status" => "status bits are \"one\" or \"two\" bytes",
         _ => "such a number has \"two\" bytes",
     };

@@ -54,6 +54,11 @@ impl<'a> Keyed<'a> {
         self.within("vid", "vid.")
     }
 
+    /// The table `bits` of a command, if it has one.
+    pub(crate) fn bits(&self) -> Option<Keyed<'a>> {
+        self.within("bits", "bits.")
+    }
+
     /// The table that a key has, if it has one, and what comes before its keys.
     fn within(&self, key: &str, prefix: &'static str) -> Option<Keyed<'a>> {
         let table = self.get(key)?.as_table()?;

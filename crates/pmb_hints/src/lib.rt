@@ -13,6 +13,7 @@
 //! ```
 #![tactic(auto)]
 
+mod bits;
 mod coded;
 mod forms;
 mod initial;

@@ -5,6 +5,7 @@
 //!
 //! Its rows: `tests/rows/hints.txt`.
 
+use crate::bits::{bits_hint, bits_type, names_hint, unit_hint};
 use crate::coded::{address_twice, code_twice, name_hint};
 use crate::forms::{form_hint, is_of_kind};
 use crate::initial::initial_hint;
@@ -13,9 +14,10 @@ use crate::keys::{missing_code, missing_key, no_array, unknown_key, wrong_type};
 use crate::lines::Hints;
 use crate::lists::{address_ignored, ignored_hint, modes_hint, one_mode_hint};
 use crate::numbers::{address_hint, many_hint, out_of_range, unknown_word};
-use crate::vid::{vid_hint, vid_type};
+use crate::vid::{kind_of_table, vid_hint, vid_type};
 use crate::words::{
-    BEFORE_DIRECT, CALL, COEFFICIENTS, COMMAND, DEVICE, DIRECT, KIND, PEC, READ, TOP, WRITE, Words,
+    BEFORE_BITS, BEFORE_DIRECT, CALL, COEFFICIENTS, COMMAND, DEVICE, DIRECT, KIND, NUMBERS, PEC,
+    READ, TOP, WRITE, Words,
 };
 use pmb_table::FaultKind;
 
@@ -68,10 +70,20 @@ enum Mistake {
     Modes,
     /// A list of VOUT_MODE has different ones where there is one for all pages.
     OneMode,
+    /// `kind` names a VID table without `vid:`.
+    KindOfTable,
     /// `vid`, or what is in it, has another type than it needs.
     VidType,
     /// A VID table is unknown, a list has not one for each page, or a key is no type.
     Vid,
+    /// The unit of a command is none.
+    Unit,
+    /// The name of a bit has another type than it needs.
+    BitsType,
+    /// A key of `bits` is no bit.
+    Bits,
+    /// A name of a command or of one of its bits is none, or two bits have one.
+    Names,
     /// Whatever the keys are, this line is written.
     Always(&'static str),
 }
@@ -113,6 +125,7 @@ const VALUES_OF_DEVICE: &[Mistake] = &[
     Mistake::OutOfRange("vout_mode", 0, 255),
     Mistake::Modes,
     Mistake::Vid,
+    Mistake::OutOfRange("phases", 1, 255),
     Mistake::OneMode,
 ];
 
@@ -121,6 +134,7 @@ const TYPES_AFTER_DIRECT: &[Mistake] = &[
     Mistake::NoArray("command", EACH_COMMAND),
     Mistake::WrongType(&["name"]),
     Mistake::VidType,
+    Mistake::WrongType(&["phases"]),
 ];
 
 const NAME_OF_DEVICE: &[Mistake] = &[Mistake::Key(
@@ -165,6 +179,8 @@ const UNKNOWN_OF_COMMAND: &[Mistake] = &[
         WITH_LINEAR,
     ),
     Mistake::KeyOfKinds("unsigned", &["direct"], WITH_DIRECT),
+    Mistake::KeyOfKinds("unit", NUMBERS, WITH_NUMBERS),
+    Mistake::KeyOfKinds("bits", &["status"], WITH_STATUS),
 ];
 
 const WITH_DIRECT: &str = "this key goes with kind = \"direct\" alone";
@@ -173,6 +189,13 @@ const WITH_LINEAR: &str =
     "this key goes with kind = \"linear11\", \"ulinear16\" or \"slinear16\" alone, from the key or \
      the standard";
 
+const WITH_NUMBERS: &str =
+    "this key goes with numbers alone, so not with kind = \"raw\", \"status\" or \"text\", from the key \
+     or the standard";
+
+const WITH_STATUS: &str =
+    "this key goes with kind = \"status\" alone, from the key or the standard";
+
 const MISSING_OF_COMMAND: &[Mistake] = &[
     Mistake::NoCode,
     Mistake::MissingOfKind("direct", COEFFICIENTS),
@@ -180,7 +203,11 @@ const MISSING_OF_COMMAND: &[Mistake] = &[
     Mistake::MissingOfKind("slinear16", &["exponent"]),
 ];
 
-const TYPES_OF_COMMAND: &[Mistake] = &[Mistake::WrongType(COMMAND)];
+const TYPES_OF_COMMAND: &[Mistake] = &[
+    Mistake::WrongType(BEFORE_BITS),
+    Mistake::BitsType,
+    Mistake::WrongType(&["phased"]),
+];
 
 const VALUES_OF_COMMAND: &[Mistake] = &[
     Mistake::OutOfRange("code", 0, 255),
@@ -189,13 +216,22 @@ const VALUES_OF_COMMAND: &[Mistake] = &[
         "linear16",
         "it is kind = \"vout\", and vout_mode has the exponent",
     ),
+    Mistake::Word("kind", "ieee754", "it is kind = \"half\""),
+    Mistake::Word(
+        "kind",
+        "udirect",
+        "it is kind = \"direct\" with unsigned = true",
+    ),
+    Mistake::KindOfTable,
     Mistake::UnknownWord("kind", KIND),
     Mistake::OutOfRange("exponent", -16, 15),
+    Mistake::Unit,
+    Mistake::Bits,
 ];
 
 const UNKNOWN_NAME: &[Mistake] = &[Mistake::UnknownName];
 
-const BAD_NAME: &[Mistake] = &[Mistake::Key("name", "a name is 1 to 32 of A to Z, 0 to 9 and _")];
+const BAD_NAME: &[Mistake] = &[Mistake::Names];
 
 const BAD_FORM: &[Mistake] = &[
     Mistake::UnknownWord("write", WRITE),
@@ -305,8 +341,13 @@ impl Mistake {
             Mistake::AddressIgnored => address_ignored(keyed, lines),
             Mistake::Modes => modes_hint(keyed, lines),
             Mistake::OneMode => one_mode_hint(keyed, lines),
+            Mistake::KindOfTable => kind_of_table(keyed, lines),
             Mistake::VidType => vid_type(keyed, lines),
             Mistake::Vid => vid_hint(keyed, lines),
+            Mistake::Unit => unit_hint(keyed, lines),
+            Mistake::BitsType => bits_type(keyed, lines),
+            Mistake::Bits => bits_hint(keyed, lines),
+            Mistake::Names => names_hint(keyed, lines),
             Mistake::Always(line) => lines.try_push_str(line).is_ok(),
             _ => false,
         }

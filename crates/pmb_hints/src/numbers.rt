@@ -4,7 +4,7 @@
 
 use crate::keyed::Keyed;
 use crate::lines::Hints;
-use crate::words::{Words, is_among, similar};
+use crate::words::{VID, Words, is_among, likeness, similar};
 use arrayvec::ArrayString;
 use std::fmt::Write;
 
@@ -42,6 +42,21 @@ pub(crate) fn unknown_word(keyed: Keyed<'_>, key: &str, words: Words, lines: &mu
     }
 }
 
+/// Whether a word names a VID table.
+fn is_table(word: &str) -> bool {
+    is_among(VID, word.strip_prefix("vid:").unwrap_or(word))
+}
+
+/// The word of some that may have been meant, if there is one. A VID table whose name is nearly this one
+/// is another table, so only the case of letters may differ.
+fn meant(text: &str, words: Words) -> Option<&'static str> {
+    let word = similar(text, words)?;
+    if is_table(word) && likeness(text, word) != Some(0) {
+        return None;
+    }
+    Some(word)
+}
+
 /// The rule that a word breaks that is none of some, if it is none: the one that may have been meant, or
 /// all of them.
 pub(crate) fn unknown_rule(text: &str, words: Words) -> Option<Rule> {
@@ -49,13 +64,16 @@ pub(crate) fn unknown_rule(text: &str, words: Words) -> Option<Rule> {
         return None;
     }
     let mut rule = Rule::new();
-    if let Some(meant) = similar(text, words) {
-        let _ = write!(rule, "did you mean \"{meant}\"?");
+    if let Some(word) = meant(text, words) {
+        let _ = write!(rule, "did you mean \"{word}\"?");
         return Some(rule);
     }
     let _ = rule.try_push_str("it is one of");
     for word in words {
         let _ = write!(rule, " \"{word}\"");
+    }
+    if is_among(words, "vr11") {
+        let _ = rule.try_push_str(", with steps of 6.25, 5, 10, 10, 6.25 and 5 mV");
     }
     Some(rule)
 }

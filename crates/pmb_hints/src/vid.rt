@@ -32,6 +32,19 @@ pub(crate) fn vid_hint(keyed: Keyed<'_>, lines: &mut Hints) -> bool {
     }
 }
 
+/// Writes that `kind` names a VID table without `vid:`, if it does.
+pub(crate) fn kind_of_table(keyed: Keyed<'_>, lines: &mut Hints) -> bool {
+    let Some(table) = keyed.text("kind") else {
+        return false;
+    };
+    if !is_among(VID, table) {
+        return false;
+    }
+    let mut rule = Rule::new();
+    let _ = write!(rule, "it is kind = \"vid:{table}\"");
+    keyed.rule("kind", rule.as_str(), lines)
+}
+
 /// Writes the first key that is no type, if there is one.
 fn unknown_type(keyed: Keyed<'_>, lines: &mut Hints) -> bool {
     for key in keyed.table.keys() {

@@ -85,6 +85,7 @@ fixed_kind coefficients mode kinds.Vout exponent is = absurd (vout_word signs.Un
 fixed_kind coefficients mode kinds.VoutSigned exponent is =
     absurd (vout_word signs.Signed coefficients mode exponent is)
 fixed_kind coefficients mode kinds.Status exponent is = absurd (cc is)
+fixed_kind coefficients mode kinds.Text exponent is = absurd (cc is)
 
 -- each VID table has a code
 first_code : (table : VidTable) → (code : ℕ) × (vid table).IsCode code

@@ -138,6 +138,7 @@ module _ (laws : AreGood) where
   number_good coefficients mode kinds.Vout make own = vout_good signs.Unsigned coefficients mode make
   number_good coefficients mode kinds.VoutSigned make own = vout_good signs.Signed coefficients mode make
   number_good coefficients mode kinds.Status make own = tt
+  number_good coefficients mode kinds.Text make own = tt
 
 -- ---- requests
 

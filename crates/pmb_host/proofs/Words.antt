@@ -77,6 +77,7 @@ number_fits coefficients mode (kinds.Number format) number form is fits = fits
 number_fits coefficients mode kinds.Vout number form is fits = fits
 number_fits coefficients mode kinds.VoutSigned number form is fits = fits
 number_fits coefficients mode kinds.Status number form is fits = absurd (cc is)
+number_fits coefficients mode kinds.Text number form is fits = absurd (cc is)
 
 -- the codes of a VID table are bytes
 vid_small : (table : VidTable) (word : ℕ) → (vid table).IsCode word → word < 65536

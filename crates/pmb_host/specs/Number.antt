@@ -34,3 +34,4 @@ number_of coefficients mode (kinds.Number format) = Ok format
 number_of coefficients mode kinds.Vout = vout_number Unsigned coefficients mode
 number_of coefficients mode kinds.VoutSigned = vout_number Signed coefficients mode
 number_of coefficients mode kinds.Status = Err NotAQuantity
+number_of coefficients mode kinds.Text = Err NotAQuantity

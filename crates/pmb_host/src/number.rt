@@ -59,7 +59,7 @@ pub(crate) fn number_of(
     ensures { result ≡ number_of coefficients mode kind }
 {
     match kind {
-        Kind::Raw | Kind::Status => Err(HostFault::NotAQuantity),
+        Kind::Raw | Kind::Status | Kind::Text => Err(HostFault::NotAQuantity),
         Kind::Number(format) => Ok(format),
         Kind::Vout => vout_number(Sign::Unsigned, coefficients, mode),
         Kind::VoutSigned => vout_number(Sign::Signed, coefficients, mode),

@@ -1,23 +1,27 @@
 -- A piece of a capture says nothing that the whole denies, member by member: where an object stands,
--- its time, PAGE, and a value by VOUT_MODE. For the law `numbers_of_pieces_are_of_the_whole`, and for
+-- its time, PAGE and PHASE, and a value by VOUT_MODE. For the law `meanings_of_pieces_are_of_the_whole`, and for
 -- Pieces, which goes from members to objects. What the piece gives the whole gives too, but for
 -- places, for what is not known in the piece or only assumed, and for times where these may differ.
 use Rattle.std.proofs.Common.{◌≡◌, ℕ, zero, suc, ◌+◌, ◌<◌, ◌*◌, Bool, true, false, Option, Some, None, Result, Ok}
 use Rattle.std.proofs.Common.{Err, ◌⊎◌, inl}
-use Rattle.std.proofs.Common.{inr, List, [], ◌∷◌, ◌++◌, codes, slice_index_or, refl, sym, ◌∙◌}
+use Rattle.std.proofs.Common.{inr, List, [], ◌∷◌, ◌++◌, codes, length, slice_index_or, refl, sym, ◌∙◌}
 use Rattle.std.proofs.Common.{ap, subst, arith}
-use Rattle.std.specs.List.{Contains}
+use Rattle.std.specs.List.{AllByRecursion, Contains, list_any}
+use Rattle.std.specs.Str.{bytes_eq}
+use Rattle.std.proofs.lemmas.Bool.{false≢true}
 use Rattle.std.proofs.lemmas.List.Elements.{Contains-append_cases, Contains-append_left, Contains-append_right}
 use Rattle.pmb_command.specs.declared.entry.Kind.{Kind}
-use Rattle.pmb_command.specs.declared.entry.Kind.TheVariants.{Raw, Number, Vout, VoutSigned, Status}
-use Rattle.pmb_command.specs.Entry.{EntryParts}
-use Rattle.pmb_command.specs.Parts.{DeviceParts}
+use Rattle.pmb_command.specs.declared.entry.Kind.TheVariants.{Raw, Number, Vout, VoutSigned, Status, Text}
+use Rattle.pmb_command.specs.Parts.{CommandParts, DeviceParts, command_with}
+use Rattle.pmb_command_data.specs.Phases.{has_phases}
+use Rattle.pmb_command_data.specs.Text.{text_of}
 use Rattle.pmb_json_fields.specs.declared.access.Access.{Access}
 use Rattle.pmb_json_fields.specs.declared.basis.Basis.{Basis}
 use Rattle.pmb_json_fields.specs.declared.basis.Basis.TheVariants.{Told, Assumed}
-use Rattle.pmb_json_fields.specs.Value.{basis_members, data_members, format_members, marked_members, no_voltage_name}
-use Rattle.pmb_json_fields.specs.Value.{number_members, of_word, raw_members, status_members, voltage_members}
-use Rattle.pmb_json_fields.specs.Value.{vout_members, word_fault_name}
+use Rattle.pmb_json_fields.specs.Value.{basis_members, data_members, form_of, format_members, kind_members}
+use Rattle.pmb_json_fields.specs.Value.{marked_members, no_voltage_name, number_members, of_word, raw_members}
+use Rattle.pmb_json_fields.specs.Value.{status_members, text_members, voltage_members, voltage_unit, vout_members}
+use Rattle.pmb_json_fields.specs.Value.{word_fault_name}
 use Rattle.pmb_quantity.specs.Fraction.{Fraction}
 use Rattle.pmb_value.specs.WordFault.{value_in}
 use Rattle.pmb_value.specs.declared.number_format.WordFault.{WordFault}
@@ -34,11 +38,10 @@ use Rattle.pmb_json_text.specs.Json.{null, string}
 use Rattle.pmb_json_text.specs.Member.{Member, count, named}
 use Rattle.pmb_places.specs.declared.places.Place.{Place}
 use Rattle.pmb_json_objects.specs.Head.{Head}
-use Rattle.pmb_json_objects.specs.Members.{entry_members}
-use Rattle.pmb_json_objects.specs.Members.{head_members}
-use Rattle.pmb_json_objects.specs.Members.{page_member, page_value, time_members}
-use Rattle.pmb_json_objects.specs.Members.{where_members}
-use Rattle.pmb_json.specs.Pieces.{IsNumber, IsUnknown, IsWhere, OtherTimes, SayNoMore, TellsNoMore, Timing}
+use Rattle.pmb_json_objects.specs.Members.{entry_members, head_members, of_command, of_device_command, page_member}
+use Rattle.pmb_json_objects.specs.Members.{phase_member, selected_value, time_members, where_members}
+use Rattle.pmb_json.specs.Pieces.{IsMeaning, IsUnknown, IsWhere, OtherTimes, SayNoMore, TellsNoMore, Timing}
+use Rattle.pmb_json.specs.Pieces.{meaning_keys}
 
 -- ---- times
 
@@ -56,77 +59,37 @@ at_one : (x m : Member) (k : ℕ) → k < 1 → slice_index_or (x ∷ []) k m �
 at_one x m zero small is = is
 at_one x m (suc k) small is = absurd (omega arith)
 
--- keys that differ in a byte are not one
-abbrev byte_at : ℕ → List ℕ → ℕ
-byte_at at key = slice_index_or key at 0
+of_each : (P : List ℕ → Type 0) (keys : List (List ℕ)) (key : List ℕ) (k : ℕ) → AllByRecursion P keys
+    → k < length keys → slice_index_or keys k key ≡ key → P key
+of_each P [] key k each within is = absurd (omega (arith, within))
+of_each P (first ∷ keys) key zero each within is = subst P is each.0
+of_each P (first ∷ keys) key (suc k) each within is = of_each P keys key k each.1 (omega (arith, within)) is
 
-differ_at : (at : ℕ) (key x y : List ℕ) (m n : ℕ) → key ≡ x → key ≡ y → byte_at at x ≡ m → byte_at at y ≡ n
-    → m < n ⊎ n < m → ⊥
-differ_at at key x y m n a b first second (inl less) =
-    omega (arith, ap (byte_at at) (sym a ∙ b), first, second, less)
-differ_at at key x y m n a b first second (inr more) =
-    omega (arith, ap (byte_at at) (sym a ∙ b), first, second, more)
+-- the keys of what may be another in a piece
+abbrev moving_keys : List (List ℕ)
+moving_keys =
+    codes "at" ∷ codes "line" ∷ codes "column" ∷ codes "page" ∷ codes "phase" ∷ codes "raw" ∷ codes "mode"
+    ∷ codes "time" ∷ []
 
-keys_differ : (key x y : List ℕ) (m n : ℕ) → key ≡ x → key ≡ y → byte_at 0 x ≡ m → byte_at 0 y ≡ n
-    → m < n ⊎ n < m → ⊥
-keys_differ = differ_at 0
+abbrev is_moving : List ℕ → Bool
+is_moving key = list_any (bytes_eq key) moving_keys
 
-not_where : (key : List ℕ) → (key ≡ codes "value") ⊎ ((key ≡ codes "number") ⊎ (key ≡ codes "ratio"))
-    → (key ≡ codes "at") ⊎ ((key ≡ codes "line") ⊎ (key ≡ codes "column")) → ⊥
-not_where key (inl a) (inl b) = keys_differ key (codes "value") (codes "at") 118 97 a b refl refl
-    (inr (omega arith))
-not_where key (inl a) (inr (inl b)) = keys_differ key (codes "value") (codes "line") 118 108 a b refl refl
-    (inr (omega arith))
-not_where key (inl a) (inr (inr b)) = keys_differ key (codes "value") (codes "column") 118 99 a b refl refl
-    (inr (omega arith))
-not_where key (inr (inl a)) (inl b) = keys_differ key (codes "number") (codes "at") 110 97 a b refl refl
-    (inr (omega arith))
-not_where key (inr (inl a)) (inr (inl b)) = keys_differ key (codes "number") (codes "line") 110 108 a b refl refl
-    (inr (omega arith))
-not_where key (inr (inl a)) (inr (inr b)) = keys_differ key (codes "number") (codes "column") 110 99 a b refl refl
-    (inr (omega arith))
-not_where key (inr (inr a)) (inl b) = keys_differ key (codes "ratio") (codes "at") 114 97 a b refl refl
-    (inr (omega arith))
-not_where key (inr (inr a)) (inr (inl b)) = keys_differ key (codes "ratio") (codes "line") 114 108 a b refl refl
-    (inr (omega arith))
-not_where key (inr (inr a)) (inr (inr b)) = keys_differ key (codes "ratio") (codes "column") 114 99 a b refl refl
-    (inr (omega arith))
+-- none of what data mean is such
+meaning_stays : (m : Member) → IsMeaning m → is_moving m.key ≡ false
+meaning_stays m means =
+    of_each (λ key. is_moving key ≡ false) meaning_keys m.key means.0
+    (refl, (refl, (refl, (refl, (refl, (refl, (refl, (refl, tt)))))))) means.1 means.2
 
-not_unknown : (key : List ℕ) → (key ≡ codes "value") ⊎ ((key ≡ codes "number") ⊎ (key ≡ codes "ratio"))
-    → (key ≡ codes "page") ⊎ ((key ≡ codes "raw") ⊎ (key ≡ codes "mode")) → ⊥
-not_unknown key (inl a) (inl b) = keys_differ key (codes "value") (codes "page") 118 112 a b refl refl
-    (inr (omega arith))
-not_unknown key (inl a) (inr (inl b)) = keys_differ key (codes "value") (codes "raw") 118 114 a b refl refl
-    (inr (omega arith))
-not_unknown key (inl a) (inr (inr b)) = keys_differ key (codes "value") (codes "mode") 118 109 a b refl refl
-    (inr (omega arith))
-not_unknown key (inr (inl a)) (inl b) = keys_differ key (codes "number") (codes "page") 110 112 a b refl refl
-    (inl (omega arith))
-not_unknown key (inr (inl a)) (inr (inl b)) = keys_differ key (codes "number") (codes "raw") 110 114 a b refl refl
-    (inl (omega arith))
-not_unknown key (inr (inl a)) (inr (inr b)) = keys_differ key (codes "number") (codes "mode") 110 109 a b refl refl
-    (inr (omega arith))
-not_unknown key (inr (inr a)) (inl b) = keys_differ key (codes "ratio") (codes "page") 114 112 a b refl refl
-    (inr (omega arith))
-not_unknown key (inr (inr a)) (inr (inl b)) = differ_at 2 key (codes "ratio") (codes "raw") 116 119 a b refl refl
-    (inl (omega arith))
-not_unknown key (inr (inr a)) (inr (inr b)) = keys_differ key (codes "ratio") (codes "mode") 114 109 a b refl refl
-    (inr (omega arith))
+where_moves : (m : Member) → IsWhere m → is_moving m.key ≡ true
+where_moves m (inl is) = ap is_moving is
+where_moves m (inr (inl is)) = ap is_moving is
+where_moves m (inr (inr is)) = ap is_moving is
 
-key_unknown : (m : Member) → IsUnknown m
-    → (m.key ≡ codes "page") ⊎ ((m.key ≡ codes "raw") ⊎ (m.key ≡ codes "mode"))
-key_unknown m (inl is) = inl (ap (λ (x : Member). x.key) is)
-key_unknown m (inr (inl is)) = inr (inl (ap (λ (x : Member). x.key) is))
-key_unknown m (inr (inr is)) = inr (inr (ap (λ (x : Member). x.key) is))
-
-not_time : (key : List ℕ) → (key ≡ codes "value") ⊎ ((key ≡ codes "number") ⊎ (key ≡ codes "ratio"))
-    → key ≡ codes "time" → ⊥
-not_time key (inl a) b = keys_differ key (codes "value") (codes "time") 118 116 a b refl refl
-    (inr (omega arith))
-not_time key (inr (inl a)) b = keys_differ key (codes "number") (codes "time") 110 116 a b refl refl
-    (inl (omega arith))
-not_time key (inr (inr a)) b = keys_differ key (codes "ratio") (codes "time") 114 116 a b refl refl
-    (inl (omega arith))
+unknown_moves : (m : Member) → IsUnknown m → is_moving m.key ≡ true
+unknown_moves m (inl is) = ap (λ (x : Member). is_moving x.key) is
+unknown_moves m (inr (inl is)) = ap (λ (x : Member). is_moving x.key) is
+unknown_moves m (inr (inr (inl is))) = ap (λ (x : Member). is_moving x.key) is
+unknown_moves m (inr (inr (inr is))) = ap (λ (x : Member). is_moving x.key) is
 
 module _ {timing : Timing} where
   -- ---- members
@@ -167,14 +130,15 @@ module _ {timing : Timing} where
   unknown : (x : Member) (others : List Member) → IsUnknown x → SayNoMore timing (x ∷ []) others
   unknown x others is = record { each = λ m here. inr (inl (subst IsUnknown (at_one x m here.0 here.1 here.2) is)) }
 
-  -- a number is nothing else
-  pub number_said : (piece whole : List Member) (m : Member) → SayNoMore timing piece whole → Contains piece m
-      → IsNumber m → Contains whole m
-  number_said piece whole m no_more here number =
+  -- what data mean is nothing else
+  pub meaning_said : (piece whole : List Member) (m : Member) → SayNoMore timing piece whole → Contains piece m
+      → IsMeaning m → Contains whole m
+  meaning_said piece whole m no_more here means =
+      let stays : is_moving m.key ≡ false = meaning_stays m means in
       elim (no_more.each m here) [
-        | inl place ↦ absurd (not_where m.key number place)
-        | inr (inl is) ↦ absurd (not_unknown m.key number (key_unknown m is))
-        | inr (inr (inl time)) ↦ absurd (not_time m.key number time.1)
+        | inl place ↦ absurd (false≢true (sym stays ∙ where_moves m place))
+        | inr (inl is) ↦ absurd (false≢true (sym stays ∙ unknown_moves m is))
+        | inr (inr (inl time)) ↦ absurd (false≢true (sym stays ∙ ap is_moving time.1))
         | inr (inr (inr found)) ↦ found
       ]
 
@@ -213,24 +177,54 @@ module _ {timing : Timing} where
       both (where_said head.at there.at head.place there.place)
       (both (time_said head.time there.time told) (same (named (codes "kind") (string kind) ∷ [])))
 
-  -- ---- PAGE
+  -- ---- PAGE and PHASE
+
+  -- what is selected, where it is that of the whole if the piece knows it
+  module _ (key : List ℕ) (unknown_null : IsUnknown (named key null)) (p q : Option ℕ)
+      (known : (number : ℕ) → p ≡ Some number → q ≡ Some number) where
+    selected_is : (r : Option ℕ) → p ≡ r → SayNoMore timing (named key (selected_value r) ∷ [])
+        (named key (selected_value q) ∷ [])
+    selected_is None is = unknown (named key null) (named key (selected_value q) ∷ []) unknown_null
+    selected_is (Some number) is =
+        subst (λ (r : Option ℕ). SayNoMore timing (named key (selected_value (Some number)) ∷ [])
+        (named key (selected_value r) ∷ []))
+        (sym (known number is)) (same (named key (selected_value (Some number)) ∷ []))
+
+    selected_said : SayNoMore timing (named key (selected_value p) ∷ []) (named key (selected_value q) ∷ [])
+    selected_said = selected_is p refl
 
   module _ (p q : Option ℕ) (known : (number : ℕ) → p ≡ Some number → q ≡ Some number) where
-    page_is : (r : Option ℕ) → p ≡ r → SayNoMore timing (named (codes "page") (page_value r) ∷ [])
-        (named (codes "page") (page_value q) ∷ [])
-    page_is None is = unknown (named (codes "page") null) (named (codes "page") (page_value q) ∷ []) (inl refl)
-    page_is (Some number) is =
-        subst (λ (r : Option ℕ). SayNoMore timing (named (codes "page") (page_value (Some number)) ∷ [])
-        (named (codes "page") (page_value r) ∷ []))
-        (sym (known number is)) (same (named (codes "page") (page_value (Some number)) ∷ []))
-
     page_said : (paged : Bool) → SayNoMore timing (page_member paged p) (page_member paged q)
     page_said false = same []
-    page_said true = page_is p refl
+    page_said true = selected_said (codes "page") (inl refl) p q known
 
-    pub entry_said : (entry : Option EntryParts) → SayNoMore timing (entry_members p entry) (entry_members q entry)
-    entry_said None = same []
-    entry_said (Some entry) = both (same (named (codes "command") (string entry.name) ∷ [])) (page_said entry.paged)
+    phase_said : (phased : Bool) → SayNoMore timing (phase_member phased p) (phase_member phased q)
+    phase_said false = same []
+    phase_said true = selected_said (codes "phase") (inr (inl refl)) p q known
+
+  pub entry_said : (p q : Option ℕ) → ((number : ℕ) → p ≡ Some number → q ≡ Some number)
+      → (f g : Option ℕ) → ((number : ℕ) → f ≡ Some number → g ≡ Some number)
+      → (device : DeviceParts) (c : CommandParts)
+      → SayNoMore timing (entry_members p f device c) (entry_members q g device c)
+  entry_said p q pages f g phases device c =
+      both (same (named (codes "command") (string c.entry.name) ∷ []))
+      (both (page_said p q pages c.entry.paged) (phase_said f g phases (has_phases device c)))
+
+  -- .. of the command with a code, where there is one
+  of_command_said : (one other : DeviceParts → CommandParts → List Member)
+      → ((device : DeviceParts) (c : CommandParts) → SayNoMore timing (one device c) (other device c))
+      → (device : DeviceParts) (found : Option CommandParts)
+      → SayNoMore timing (of_command one device found) (of_command other device found)
+  of_command_said one other said device None = same []
+  of_command_said one other said device (Some c) = said device c
+
+  pub of_device_command_said : (one other : DeviceParts → CommandParts → List Member)
+      → ((device : DeviceParts) (c : CommandParts) → SayNoMore timing (one device c) (other device c))
+      → (found : Option DeviceParts) (code : ℕ)
+      → SayNoMore timing (of_device_command one found code) (of_device_command other found code)
+  of_device_command_said one other said None code = same []
+  of_device_command_said one other said (Some device) code =
+      of_command_said one other said device (command_with code device.commands)
 
   -- ---- values
 
@@ -238,57 +232,71 @@ module _ {timing : Timing} where
   mark_said : (one other : Basis) → SayNoMore timing (basis_members one) (basis_members other)
   mark_said Told other = nothing_said (basis_members other)
   mark_said Assumed other = unknown (named (codes "mode") (string (codes "assumed"))) (basis_members other)
-      (inr (inr refl))
+      (inr (inr (inr refl)))
 
-module _ (places : ℕ) (acc : Access) (device : DeviceParts) (code : ℕ) where
+module _ (places : ℕ) (acc : Access) (device : DeviceParts) (c : CommandParts) where
   -- data in the piece and in the whole, by what is known of VOUT_MODE and PAGE and what the mode rests on
-  abbrev said_by : KnownMode → Option ℕ → Basis → Kind → List ℕ → List Member
-  said_by m page basis kind bytes = data_members places acc (voltages_of device m page) basis code kind bytes
+  abbrev said_by : KnownMode → Option ℕ → Basis → List ℕ → List Member
+  said_by m page basis bytes = data_members places acc (voltages_of device m page) basis c bytes
 
   module _ {timing : Timing} (one other : Basis) where
     -- ---- the format is the same, and its mode may be assumed
 
     value_said : (ratio : Bool) (value : Result Fraction WordFault)
-        → SayNoMore timing (marked_members places ratio one value) (marked_members places ratio other value)
-    value_said ratio (Ok quantity) = both (same (voltage_members places ratio quantity)) (mark_said one other)
+        → SayNoMore timing (marked_members places c.unit ratio one value)
+        (marked_members places c.unit ratio other value)
+    value_said ratio (Ok quantity) =
+        both (same (voltage_members places ratio quantity))
+        (both (mark_said one other) (same (voltage_unit ratio c.unit)))
     value_said ratio (Err fault) = same (raw_members (word_fault_name fault))
 
     same_format_said : (format : Result VoltageFormat NoVoltage) (word : ℕ)
-        → SayNoMore timing (format_members places one format word) (format_members places other format word)
+        → SayNoMore timing (format_members places c.unit one format word)
+        (format_members places c.unit other format word)
     same_format_said (Ok format) word = value_said format.is_ratio (value_in format.number word)
     same_format_said (Err why) word = same (raw_members (no_voltage_name why))
 
     -- .. or it is not known in the piece
     format_said : (piece whole : Result VoltageFormat NoVoltage) (word : ℕ)
         → (piece ≡ Err Unknown) ⊎ (piece ≡ whole)
-        → SayNoMore timing (format_members places one piece word) (format_members places other whole word)
+        → SayNoMore timing (format_members places c.unit one piece word)
+        (format_members places c.unit other whole word)
     format_said piece whole word (inl is) =
-        let theirs : List Member = format_members places other whole word in
-        subst (λ (r : Result VoltageFormat NoVoltage). SayNoMore timing (format_members places one r word) theirs)
-        (sym is) (unknown (named (codes "raw") (string (codes "unknown"))) theirs (inr (inl refl)))
+        let theirs : List Member = format_members places c.unit other whole word in
+        subst (λ (r : Result VoltageFormat NoVoltage). SayNoMore timing (format_members places c.unit one r word)
+        theirs)
+        (sym is) (unknown (named (codes "raw") (string (codes "unknown"))) theirs (inr (inr (inl refl))))
     format_said piece whole word (inr is) =
-        subst (λ (r : Result VoltageFormat NoVoltage). SayNoMore timing (format_members places one piece word)
-        (format_members places other r word)) is (same_format_said piece word)
+        subst (λ (r : Result VoltageFormat NoVoltage). SayNoMore timing (format_members places c.unit one piece word)
+        (format_members places c.unit other r word)) is (same_format_said piece word)
 
     -- ---- what is known in both agrees
 
     module _ (m : KnownMode) (w p q : Option ℕ) (agrees : AgreesWith m w)
         (known : (number : ℕ) → p ≡ Some number → q ≡ Some number) where
       voltage_said : (sign : Sign) (bytes : List ℕ)
-          → SayNoMore timing (of_word (vout_members places (voltages_of device m p) one code sign) bytes)
-          (of_word (vout_members places (voltages_of device (known_as w) q) other code sign) bytes)
+          → SayNoMore timing (of_word (vout_members places (voltages_of device m p) one c sign) bytes)
+          (of_word (vout_members places (voltages_of device (known_as w) q) other c sign) bytes)
       voltage_said sign [] = same []
       voltage_said sign (a ∷ []) = same []
       voltage_said sign (low ∷ high ∷ []) =
-          format_said (voltage_format (voltages_of device m p) code sign)
-          (voltage_format (voltages_of device (known_as w) q) code sign) (low + 256 * high)
-          (knows_no_other device m w p q code sign agrees known)
-      voltage_said sign (a ∷ b ∷ c ∷ bytes) = same []
+          format_said (voltage_format (voltages_of device m p) c.entry.code sign)
+          (voltage_format (voltages_of device (known_as w) q) c.entry.code sign) (low + 256 * high)
+          (knows_no_other device m w p q c.entry.code sign agrees known)
+      voltage_said sign (a ∷ b ∷ d ∷ bytes) = same []
 
-      pub data_said : (kind : Kind) (bytes : List ℕ)
-          → SayNoMore timing (said_by m p one kind bytes) (said_by (known_as w) q other kind bytes)
-      data_said Raw bytes = same []
-      data_said (Number format) bytes = same (of_word (number_members places format) bytes)
-      data_said Vout bytes = voltage_said Unsigned bytes
-      data_said VoutSigned bytes = voltage_said Signed bytes
-      data_said Status bytes = same (status_members acc code bytes)
+      kind_said : (kind : Kind) (bytes : List ℕ)
+          → SayNoMore timing (kind_members places acc (voltages_of device m p) one c kind bytes)
+          (kind_members places acc (voltages_of device (known_as w) q) other c kind bytes)
+      kind_said Raw bytes = same []
+      kind_said (Number format) bytes = same (of_word (number_members places c.unit format) bytes)
+      kind_said Vout bytes = voltage_said Unsigned bytes
+      kind_said VoutSigned bytes = voltage_said Signed bytes
+      kind_said Status bytes = same (status_members acc c bytes)
+      kind_said Text bytes = same []
+
+      pub data_said : (bytes : List ℕ)
+          → SayNoMore timing (said_by m p one bytes) (said_by (known_as w) q other bytes)
+      data_said bytes =
+          both (kind_said c.entry.kind bytes)
+          (same (text_members (text_of c.entry (form_of acc c.entry.shape) bytes)))

@@ -1,15 +1,14 @@
 -- A piece of a capture says nothing that the whole denies: each member of its objects is one of the
 -- whole's, but for places, and for what is not known in the piece. For the laws
 -- `pieces_say_no_more` and `texts_of_pieces_say_no_more`. Object by object, by PieceMembers, from
--- what is known of PAGE and VOUT_MODE in both (`Agree`).
+-- what is known of PAGE, PHASE and VOUT_MODE in both (`Agree`).
 use Rattle.std.proofs.Common.{◌≡◌, ℕ, suc, ◌+◌, ◌/◌, Bool, Option, Some, None}
 use Rattle.std.proofs.Common.{List, [], ◌∷◌, ◌++◌, codes, drop, take, length, map, refl, sym}
 use Rattle.std.proofs.Common.{ap, subst, append_assoc, append-nil, length-take, length-drop, arith}
 use Rattle.pmb_bus.specs.declared.event.Event.{Event}
 use Rattle.pmb_bus.specs.declared.event.Event.TheVariants.{Start, Byte, Ack, Nack, Stop}
 use Rattle.pmb_bus.specs.declared.kinds.Kinds.{Kinds}
-use Rattle.pmb_command.specs.Entry.{EntryParts}
-use Rattle.pmb_command.specs.Parts.{DeviceParts, device_with}
+use Rattle.pmb_command.specs.Parts.{CommandParts, DeviceParts, device_with}
 use Rattle.pmb_json_fields.specs.declared.access.Access.{Access}
 use Rattle.pmb_json_fields.specs.declared.access.Access.TheVariants as access
 use Rattle.pmb_json_fields.specs.Value.{data_members}
@@ -17,6 +16,8 @@ use Rattle.pmb_unknown_start.specs.Certain.{AgreesWith, known_as}
 use Rattle.pmb_unknown_start.specs.declared.mode.KnownMode.{KnownMode}
 use Rattle.pmb_unknown_start.specs.declared.start.Start.{Start as LateStart}
 use Rattle.pmb_unknown_start.specs.Known.{mode, page}
+use Rattle.pmb_unknown_start.specs.Phase.{phase}
+use Rattle.pmb_meaning.specs.Object.{says_members_of}
 use Rattle.pmb_voltage.specs.Voltage.{voltages_of}
 use Rattle.pmb_json_text.specs.Json.{boolean, null, string}
 use Rattle.pmb_json_text.specs.Member.{array_of, digits, named}
@@ -31,18 +32,18 @@ use Rattle.pmb_fact_stream.specs.Choice.{ChoiceData}
 use Rattle.pmb_json_objects.specs.BadToken.{bad_token_object}
 use Rattle.pmb_json_objects.specs.Head.{Head, head_at}
 use Rattle.pmb_json_objects.specs.Members.{code_member, command_members, device_member, device_members}
-use Rattle.pmb_json_objects.specs.Members.{part_members, sent_command}
+use Rattle.pmb_json_objects.specs.Members.{entry_members, part_members, sent_command}
 use Rattle.pmb_json_objects.specs.Names.{got_value}
 use Rattle.pmb_json_objects.specs.Object.{Object}
-use Rattle.pmb_json_objects.specs.Packets.{alert_object, call_object, data_of, data_of_entry, no_alert_object}
-use Rattle.pmb_json_objects.specs.Packets.{other_object}
+use Rattle.pmb_json_objects.specs.Packets.{alert_object, call_object, call_says, data_of, exchange_of}
+use Rattle.pmb_json_objects.specs.Packets.{no_alert_object, other_object}
 use Rattle.pmb_json_objects.specs.Packets.{packet_objects, read_object, refused_check, refused_name, refused_object}
 use Rattle.pmb_json_objects.specs.Packets.{refused_objects, said_of, starts, write_object, write_objects}
 use Rattle.pmb_json.specs.Objects.{objects_of}
 use Rattle.pmb_json.specs.Pieces.{EachSaysNoMore, SayNoMore, SaysNoMore, Timing}
 use Rattle.pmb_json_objects.specs.Refusals.{due_pec, refusal_object, reply_members, right_pec_members}
 use Rattle.pmb_json_objects.specs.Refusals.{said_device_members, written_members}
-use Rattle.pmb_json_objects.specs.Seen.{SeenData, basis_at, entry_at, entry_of}
+use Rattle.pmb_json_objects.specs.Seen.{SeenData, basis_at}
 use Rattle.pmb_fact_stream.specs.Others.{other_address}
 use Rattle.pmb_fact_stream.specs.Lines.{seen_behind}
 use Rattle.pmb_fact_stream.specs.Spans.{other_or, refused_span, span_facts}
@@ -50,7 +51,8 @@ use Rattle.pmb_facts.specs.Fact.{FactData}
 use Rattle.pmb_facts.specs.Packets.{packet_facts}
 use Rattle.pmb_transaction.specs.Reading.{RefusalData}
 use Rattle.pmb_json.proofs.Objects.{PacketsHaveObjects, packet_is}
-use Rattle.pmb_json.proofs.PieceMembers.{TellEach, Tells, both, data_said, entry_said, head_said, same}
+use Rattle.pmb_json.proofs.PieceMembers.{TellEach, Tells, both, data_said, entry_said, head_said}
+use Rattle.pmb_json.proofs.PieceMembers.{of_device_command_said, same}
 
 -- ---- objects
 
@@ -58,7 +60,8 @@ use Rattle.pmb_json.proofs.PieceMembers.{TellEach, Tells, both, data_said, entry
 pub record Agree (profile : List DeviceParts) (a b : LateStart) (x y : List TransactionData) : Type 0 where
   -- a PAGE that is known in the piece is that of the whole
   pub pages : (addr number : ℕ) → page a profile x addr ≡ Some number → page b profile y addr ≡ Some number
-  -- a VOUT_MODE likewise
+  -- a PHASE and a VOUT_MODE likewise
+  pub phases : (addr number : ℕ) → phase profile x addr ≡ Some number → phase profile y addr ≡ Some number
   pub modes : (addr : ℕ) → (w : Option ℕ) × AgreesWith (mode a profile x addr) w × (mode b profile y addr ≡ known_as w)
 
 -- the object of a bad word
@@ -133,36 +136,38 @@ module _ (timing : Timing) (places : ℕ) (profile : List DeviceParts) (a b : La
   abbrev whole : SeenData
   whole = record { digits = places; start = b; profile = profile; before = y }
 
-  entry_data_said : (acc : Access) (addr code : ℕ) (device : DeviceParts) (entry : Option EntryParts) (bytes : List ℕ)
-      → SayNoMore timing (data_of_entry piece acc addr code device entry bytes)
-      (data_of_entry whole acc addr code device entry bytes)
-  entry_data_said acc addr code device None bytes = same []
-  entry_data_said acc addr code device (Some entry) bytes =
+  -- the data of a command, and what its fields say
+  data_of_said : (acc : Access) (addr : ℕ) (bytes : List ℕ) (device : DeviceParts) (c : CommandParts)
+      → SayNoMore timing (data_of piece acc addr bytes device c) (data_of whole acc addr bytes device c)
+  data_of_said acc addr bytes device c =
       let w = agree.modes addr in
       let one = basis_at piece addr in
       let other = basis_at whole addr in
       let m : KnownMode = mode a profile x addr in
       let p : Option ℕ = page a profile x addr in
       let q : Option ℕ = page b profile y addr in
-      subst (λ (n : KnownMode). SayNoMore timing
-      (data_members places acc (voltages_of device m p) one code entry.kind bytes)
-      (data_members places acc (voltages_of device n q) other code entry.kind bytes)) (sym w.2)
-      (data_said places acc device code one other m w.0 p q w.1 (agree.pages addr) entry.kind bytes)
-
-  device_data_said : (acc : Access) (addr code : ℕ) (device : Option DeviceParts) (bytes : List ℕ)
-      → SayNoMore timing (data_of piece acc addr code device bytes) (data_of whole acc addr code device bytes)
-  device_data_said acc addr code None bytes = same []
-  device_data_said acc addr code (Some device) bytes = entry_data_said acc addr code device
-      (entry_of (Some device) code) bytes
+      both
+      (subst (λ (n : KnownMode). SayNoMore timing
+      (data_members places acc (voltages_of device m p) one c bytes)
+      (data_members places acc (voltages_of device n q) other c bytes)) (sym w.2)
+      (data_said places acc device c one other m w.0 p q w.1 (agree.pages addr) bytes))
+      (same (says_members_of device c.entry (exchange_of acc bytes)))
 
   said : (acc : Access) (addr code : ℕ) (bytes : List ℕ)
       → SayNoMore timing (said_of piece acc addr code bytes) (said_of whole acc addr code bytes)
-  said acc addr code bytes = device_data_said acc addr code (device_with addr profile) bytes
+  said acc addr code bytes =
+      of_device_command_said (data_of piece acc addr bytes) (data_of whole acc addr bytes)
+      (data_of_said acc addr bytes) (device_with addr profile) code
 
   command_said : (addr code : ℕ) → SayNoMore timing (command_members piece addr code) (command_members whole addr code)
   command_said addr code =
-      both (same (code_member code)) (entry_said (page a profile x addr) (page b profile y addr) (agree.pages addr)
-      (entry_at piece addr code))
+      let p : Option ℕ = page a profile x addr in
+      let q : Option ℕ = page b profile y addr in
+      let f : Option ℕ = phase profile x addr in
+      let g : Option ℕ = phase profile y addr in
+      both (same (code_member code))
+      (of_device_command_said (entry_members p f) (entry_members q g)
+      (entry_said p q (agree.pages addr) f g (agree.phases addr)) (device_with addr profile) code)
 
   sent_said : (addr : ℕ) (bytes : List ℕ)
       → SayNoMore timing (sent_command piece addr bytes) (sent_command whole addr bytes)
@@ -203,7 +208,7 @@ module _ (timing : Timing) (places : ℕ) (profile : List DeviceParts) (a b : La
           (both (both (head_said head there told (codes "call")) (same (device_members profile t.addr)))
           (command_said t.addr t.code))
           (same (named (codes "sent") (digits t.bytes) ∷ named (codes "reply") (digits t.reply)
-          ∷ named (codes "pec") (boolean t.pec) ∷ []));
+          ∷ named (codes "pec") (boolean t.pec) ∷ call_says piece t.addr t.code t.bytes t.reply));
     }
 
     leg_said : (parts addr : ℕ) (bytes : List ℕ) (at_read : Bool)

@@ -1,9 +1,10 @@
--- Packets tell bytes, so PAGE stays a byte after any of them. For the law `each_line_is_json`: PAGE
--- is a number of one object's members. What a part writes has bytes below 256 by its form, and
--- learning keeps such a PAGE.
-use Rattle.std.proofs.Common.{ℕ, ◌<◌, if◌then◌else◌, nat_eq, Option, Some, None, List, [], ◌∷◌, fold, map, arith}
+-- Packets tell bytes, so PAGE and PHASE stay bytes after any of them. For the law `each_line_is_json`:
+-- they are numbers of one object's members. What a part writes has bytes below 256 by its form, and
+-- learning keeps such a PAGE and such a PHASE.
+use Rattle.std.proofs.Common.{ℕ, ◌<◌, if◌then◌else◌, ◌&&◌, nat_eq, Option, Some, None, List, [], ◌∷◌, fold, map, arith}
 use Rattle.std.specs.Prelude.{IfSome, option_and_then}
-use Rattle.std.specs.List.{AllByRecursion}
+use Rattle.std.specs.List.{AllByRecursion, flat_map}
+use Rattle.std.specs.Option.{is_some, option_or}
 use Rattle.pmb_bus.specs.declared.event.Event.{Event}
 use Rattle.pmb_command.specs.Parts.{DeviceParts, device_with}
 use Rattle.pmb_unknown_start.specs.declared.start.Start.{Start}
@@ -11,12 +12,13 @@ use Rattle.pmb_unknown_start.specs.declared.start.Start.TheVariants.{AllKnown, L
 use Rattle.pmb_unknown_start.specs.Known.{KnownPaging, first_known, first_page, forget_modes, known, learn_bytes}
 use Rattle.pmb_unknown_start.specs.Known.{learn_mode, learn_told, learn_transaction, learn_value, learn_written, page}
 use Rattle.pmb_unknown_start.specs.Known.{told_by_read}
+use Rattle.pmb_unknown_start.specs.Phase.{last_phase, only_byte, phase, phase_code, phase_of, told_phase}
 use Rattle.pmb_unknown_start.specs.Restores.{untells}
 use Rattle.pmb_note.specs.Paging.{RegisterTold, page_code, told, told_by_part, vout_mode_code}
 use Rattle.pmb_json_text.specs.Spelling.{AreBytes}
 use Rattle.pmb_transaction.specs.Packet.{Packet, PartsEvents}
 use Rattle.pmb_transaction.specs.Transaction.{PartData, TransactionData, Write, Read, Call, Refused, Alert, NoAlert}
-use Rattle.pmb_json.proofs.EachOf.{of_either}
+use Rattle.pmb_json.proofs.EachOf.{each_of_both, of_either}
 
 -- ---- what packets tell
 
@@ -54,7 +56,7 @@ module _ (profile : List DeviceParts) where
 -- ---- PAGE
 
 abbrev pub IsByteIfKnown : Option ℕ → Type 0
-IsByteIfKnown page = IfSome page (λ page. page < 256)
+IsByteIfKnown known = IfSome known (λ n. n < 256)
 
 abbrev pub HasBytePage : KnownPaging → Type 0
 HasBytePage k = IsByteIfKnown k.page
@@ -129,3 +131,39 @@ page_of start ts (Some device) tell = behind_transactions device start ts (first
 pub page_is_byte : (start : Start) (profile : List DeviceParts) (ts : List TransactionData) (addr : ℕ) → AllTellBytes ts
     → IfSome (page start profile ts addr) (λ page. page < 256)
 page_is_byte start profile ts addr tell = page_of start ts (device_with addr profile) tell
+
+-- ---- PHASE
+
+of_bytes : (bytes : List ℕ) → AreBytes bytes → IsByteIfKnown (only_byte bytes)
+of_bytes [] small = tt
+of_bytes (byte ∷ []) small = small.0
+of_bytes (a ∷ b ∷ bytes) small = tt
+
+later_or_earlier : (later earlier : Option ℕ) → IsByteIfKnown later → IsByteIfKnown earlier
+    → IsByteIfKnown (option_or later earlier)
+later_or_earlier None earlier first second = second
+later_or_earlier (Some n) earlier first second = first
+
+last_is_byte : (addr : ℕ) (all : List RegisterTold) → AreTold all → IsByteIfKnown (last_phase addr all)
+last_is_byte addr [] small = tt
+last_is_byte addr (t ∷ all) small =
+    later_or_earlier (last_phase addr all) (told_phase addr t) (last_is_byte addr all small.1)
+    (of_either IsByteIfKnown (nat_eq t.addr addr && nat_eq t.code phase_code) (only_byte t.bytes) None
+    (of_bytes t.bytes small.0) tt)
+
+all_told : (ts : List TransactionData) → AllTellBytes ts → AreTold (flat_map told ts)
+all_told [] tell = tt
+all_told (t ∷ ts) tell =
+    each_of_both (λ t. AreBytes t.bytes) (told t) (flat_map told ts) tell.0 (all_told ts tell.1)
+
+of_found : (ts : List TransactionData) (addr : ℕ) (found : Option DeviceParts) → AllTellBytes ts
+    → IsByteIfKnown (option_and_then (phase_of addr ts) found)
+of_found ts addr None tell = tt
+of_found ts addr (Some device) tell =
+    of_either IsByteIfKnown (is_some device.phases) (last_phase addr (flat_map told ts)) None
+    (last_is_byte addr (flat_map told ts) (all_told ts tell)) tt
+
+-- so is PHASE
+pub phase_is_byte : (profile : List DeviceParts) (ts : List TransactionData) (addr : ℕ) → AllTellBytes ts
+    → IfSome (phase profile ts addr) (λ phase. phase < 256)
+phase_is_byte profile ts addr tell = of_found ts addr (device_with addr profile) tell

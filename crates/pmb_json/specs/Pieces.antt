@@ -23,11 +23,12 @@ all_known choice = record choice { start = AllKnown }
 abbrev pub IsWhere : Member → Type 0
 IsWhere m = (m.key ≡ codes "at") ⊎ ((m.key ≡ codes "line") ⊎ (m.key ≡ codes "column"))
 
--- that PAGE, or the VOUT_MODE of a voltage, is not known, or that this one is assumed
+-- that PAGE, PHASE, or the VOUT_MODE of a voltage, is not known, or that this one is assumed
 abbrev pub IsUnknown : Member → Type 0
 IsUnknown m =
     (m ≡ named (codes "page") null)
-    ⊎ ((m ≡ named (codes "raw") (string (codes "unknown"))) ⊎ (m ≡ named (codes "mode") (string (codes "assumed"))))
+    ⊎ ((m ≡ named (codes "phase") null)
+    ⊎ ((m ≡ named (codes "raw") (string (codes "unknown"))) ⊎ (m ≡ named (codes "mode") (string (codes "assumed")))))
 
 -- A time that a piece tells is that of the whole. (Where the cut is after a time line, the piece
 -- lacks that one.)
@@ -38,9 +39,15 @@ TellsNoMore piece whole = IfSome piece (λ time. whole ≡ Some time)
 abbrev pub TellNoMore : ℕ → (ℕ → Option (List ℕ)) → (ℕ → Option (List ℕ)) → Type 0
 TellNoMore n times theirs = (at : ℕ) → TellsNoMore (times at) (theirs (n + at))
 
--- the exact value, the nearest number, and the exact factor of VOUT_COMMAND
-abbrev pub IsNumber : Member → Type 0
-IsNumber m = (m.key ≡ codes "value") ⊎ ((m.key ≡ codes "number") ⊎ (m.key ≡ codes "ratio"))
+-- the keys of what a command's data mean: an exact value, the nearest number, an exact factor of
+-- VOUT_COMMAND, a unit, the set bits of a register, a text, and what the fields of data say
+abbrev pub meaning_keys : List (List ℕ)
+meaning_keys =
+    codes "value" ∷ codes "number" ∷ codes "ratio" ∷ codes "unit" ∷ codes "bits" ∷ codes "clears" ∷ codes "text"
+    ∷ codes "says" ∷ []
+
+abbrev pub IsMeaning : Member → Type 0
+IsMeaning m = Contains meaning_keys m.key
 
 -- whether a piece tells the times of the whole, or may tell others
 pub data Timing : Type 0 where

@@ -15,7 +15,7 @@ ghost use Rattle.pmb_io.specs.declared.tally.Tally.{Tally};
 ghost use Rattle.pmb_json.specs.Cut.{AreOfPieces, said_in};
 ghost use Rattle.pmb_json.specs.Lines.{AllMakeFormats, AreJsonLines};
 ghost use Rattle.pmb_json.specs.Objects.{objects_of};
-ghost use Rattle.pmb_json.specs.Pieces.{CanBeCutBehind, EachSaysNoMore, EndsWithLine, IsNumber, OtherTimes, SameTimes, SaysNoMore, TellNoMore, Timing, all_known};
+ghost use Rattle.pmb_json.specs.Pieces.{CanBeCutBehind, EachSaysNoMore, EndsWithLine, IsMeaning, OtherTimes, SameTimes, SaysNoMore, TellNoMore, Timing, all_known};
 ghost use Rattle.pmb_json_objects.specs.Counts.{CountsData, end_objects};
 ghost use Rattle.pmb_json_objects.specs.Object.{Object, object_lines};
 ghost use Rattle.pmb_json_text.specs.Member.{Member};
@@ -75,10 +75,10 @@ pub fn each_line_is_json()
     times_are_short();
 }
 
-/// What a piece of a capture says of values the whole says: each `value`, each `number` and each `ratio`
-/// of an object that says no more than another is one of the other's.
-pub fn numbers_of_pieces_are_of_the_whole()
-    ensures { (timing : Timing) (piece whole : Object) (m : Member) → SaysNoMore timing piece whole → Contains piece.members m → IsNumber m → Contains whole.members m }
+/// What a piece of a capture says of data the whole says: each `value`, `number`, `ratio`, `unit`, `bits`,
+/// `clears`, `text` and `says` of an object that says no more than another is one of the other's.
+pub fn meanings_of_pieces_are_of_the_whole()
+    ensures { (timing : Timing) (piece whole : Object) (m : Member) → SaysNoMore timing piece whole → Contains piece.members m → IsMeaning m → Contains whole.members m }
 {}
 
 /// A piece of a capture says nothing that the whole denies: where the piece is read late, each of its

@@ -1,3 +1,4 @@
 pub mod Pieces
 pub mod Registers
+pub mod Texts
 pub mod Keys

@@ -58,6 +58,14 @@ then_some {xs} {ys} {m} {n} {a} {b} {c} first second = record {
   writable = all_of_both (λ (x : Member). AreBytes x.key × IsWritable x.value) xs ys first.writable second.writable;
 }
 
+-- a bound that is greater
+pub at_most : {xs : List Member} {m : ℕ} {a b : List ℕ} (n : ℕ) → m ≤ n → Appends xs m a b → Appends xs n a b
+at_most n more all = record {
+  items = all.items;
+  longer = omega (arith, more, all.longer);
+  writable = all.writable;
+}
+
 -- members under another name
 pub called : {xs ys : List Member} {m : ℕ} {a b : List ℕ} → xs ≡ ys → Appends xs m a b → Appends ys m a b
 called {xs} {ys} {m} {a} {b} same all = subst (λ (zs : List Member). Appends zs m a b) same all

@@ -8,4 +8,5 @@ keys members = map (λ m. m.key) members
 -- all that there are, in the order in which some of them stand
 abbrev pub data_keys : List (List ℕ)
 data_keys =
-    codes "value" ∷ codes "number" ∷ codes "ratio" ∷ codes "mode" ∷ codes "raw" ∷ codes "bits" ∷ codes "clears" ∷ []
+    codes "value" ∷ codes "number" ∷ codes "ratio" ∷ codes "mode" ∷ codes "unit" ∷ codes "raw" ∷ codes "bits"
+    ∷ codes "clears" ∷ codes "text" ∷ []

@@ -1,49 +1,62 @@
-//! The value of a number: as an exact text, and as the nearest number.
+//! The value of a number: as an exact text, and as the nearest number, and its unit.
 //!
-//! Its rows: `tests_json`, `src/fields/numbers.rt`.
+//! Its rows: `tests_json`, `src/fields/numbers.rt` and `profiles.rt`.
 
 ghost use Rattle.std.specs.Prelude.{◌≡◌, ◌+◌, ◌≤◌, ◌∷◌, [], codes, length};
 ghost use Rattle.pmb_quantity.specs.QuantityText.{spelling};
 ghost use Rattle.pmb_decimal.specs.Decimal.{rounded_text};
+ghost use Rattle.pmb_keys.specs.CommandView.{command_parts};
 ghost use Rattle.pmb_json_text.specs.Json.{IsNumber, number, string};
 ghost use Rattle.pmb_json_text.specs.Member.{named};
-ghost use Rattle.pmb_json_fields.specs.Value.{number_members, of_word, quantity_members, voltage_members};
+ghost use Rattle.pmb_json_fields.specs.Value.{number_members, of_word, quantity_members, unit_members, voltage_members, voltage_unit};
 ghost use Rattle.pmb_json_fields.specs.machine.Written.{Appends};
 
 use crate::raw::{append_raw, append_text, word_fault_name};
 use arrayvec::ArrayVec;
 use pmb_decimal::{Digits, append_decimal};
 use pmb_json_text::{ItemOrder, number_text_member};
+use pmb_keys::Command;
 use pmb_value::{NumberFormat, Quantity};
 
 /// Appends what two bytes say in a format; nothing for another number of bytes.
 pub(crate) fn append_number<const N: usize>(
     out: &mut ArrayVec<u8, N>,
     digits: Digits,
+    command: &Command,
     format: NumberFormat,
     bytes: &[u8],
 )
-    requires { length out.old.items + 345 ≤ N }
-    ensures { Appends (of_word (number_members digits format) bytes.now) 345 out.old.items out.new.items }
+    requires { length out.old.items + 463 ≤ N }
+    ensures { Appends (of_word (number_members digits (command_parts command.now).unit format) bytes.now) 463 out.old.items out.new.items }
 {
     match bytes {
-        [low, high] => append_word(out, digits, format, u16::from_le_bytes([*low, *high])),
+        [low, high] => append_word(
+            out,
+            digits,
+            command,
+            format,
+            u16::from_le_bytes([*low, *high]),
+        ),
         _ => {}
     }
 }
 
-/// Appends the value of a word in a format, or why it has none.
+/// Appends the value of a word in a format with its unit, or why it has none.
 fn append_word<const N: usize>(
     out: &mut ArrayVec<u8, N>,
     digits: Digits,
+    command: &Command,
     format: NumberFormat,
     word: u16,
 )
-    requires { length out.old.items + 345 ≤ N }
-    ensures { Appends (number_members digits format word) 345 out.old.items out.new.items }
+    requires { length out.old.items + 463 ≤ N }
+    ensures { Appends (number_members digits (command_parts command.now).unit format word) 463 out.old.items out.new.items }
 {
     match format.value(word) {
-        Ok(quantity) => append_quantity(out, digits, &quantity),
+        Ok(quantity) => {
+            append_quantity(out, digits, &quantity);
+            append_unit(out, command);
+        }
         Err(fault) => append_raw(out, word_fault_name(fault)),
     }
 }
@@ -71,6 +84,31 @@ pub(crate) fn append_voltage_value<const N: usize>(
         append_ratio(out, quantity);
     } else {
         append_quantity(out, digits, quantity);
+    }
+}
+
+/// Appends the unit of an output voltage; nothing of a factor.
+pub(crate) fn append_voltage_unit<const N: usize>(
+    out: &mut ArrayVec<u8, N>,
+    is_ratio: bool,
+    command: &Command,
+)
+    requires { length out.old.items + 118 ≤ N }
+    ensures { Appends (voltage_unit is_ratio (command_parts command.now).unit) 118 out.old.items out.new.items }
+{
+    if !is_ratio {
+        append_unit(out, command);
+    }
+}
+
+/// Appends the unit of a command's numbers, where they have one.
+fn append_unit<const N: usize>(out: &mut ArrayVec<u8, N>, command: &Command)
+    requires { length out.old.items + 118 ≤ N }
+    ensures { Appends (unit_members (command_parts command.now).unit) 118 out.old.items out.new.items }
+{
+    match command.unit() {
+        Some(unit) => append_text(out, "unit", unit.as_bytes()),
+        None => {}
     }
 }
 

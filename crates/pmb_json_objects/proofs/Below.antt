@@ -1,22 +1,24 @@
 -- What makes members an object that is JSON with distinct keys: each can be written, and their keys
 -- are some of `object_keys`, in its order, so none comes twice. For the law `objects_are_json`, by
 -- Each. What lower crates say is taken from their laws (`Below`).
-use Rattle.std.proofs.Common.{ℕ, ◌++◌, Option, Some, None, List, [], ◌∷◌, codes, refl, sym, subst}
+use Rattle.std.proofs.Common.{ℕ, ◌++◌, List, [], ◌∷◌, codes, refl, sym, subst}
 use Rattle.std.specs.Prelude.{IsTrue}
-use Rattle.pmb_command.specs.declared.entry.Kind.{Kind}
-use Rattle.pmb_command.specs.Entry.{EntryParts}
-use Rattle.pmb_command.specs.Parts.{DeviceParts, device_with}
+use Rattle.pmb_command.specs.Bus.{IsBus}
+use Rattle.pmb_command.specs.Parts.{CommandParts}
 use Rattle.pmb_json_fields.specs.Value.{data_members}
 use Rattle.pmb_voltage.specs.Voltage.{VoltagesData, voltages_of}
 use Rattle.pmb_json_fields.specs.declared.access.Access.{Access}
 use Rattle.pmb_json_fields.specs.declared.basis.Basis.{Basis}
 use Rattle.pmb_json_fields.specs.Laws.{data_keys, keys}
-use Rattle.pmb_json_text.specs.Json.{AreDistinct}
-use Rattle.pmb_json_text.specs.Member.{IsPart, Member, are_distinct}
+use Rattle.pmb_json_text.specs.Json.{AreDistinct, null}
+use Rattle.pmb_json_text.specs.Member.{IsPart, Member, are_distinct, named}
+use Rattle.pmb_meaning.specs.Data.{called}
+use Rattle.pmb_meaning.specs.Laws.{IsSaysOrNone}
 use Rattle.pmb_json_objects.specs.Laws.{IsJsonObject, object_keys}
-use Rattle.pmb_json_objects.specs.Packets.{data_of, data_of_entry, said_of}
-use Rattle.pmb_json_objects.specs.Seen.{SeenData, basis_at, entry_of, mode_at, page_at}
-use Rattle.pmb_json_objects.proofs.DataMembers.{DecimalsAreNumbers}
+use Rattle.pmb_json_objects.specs.Packets.{call_says, data_of, exchange_of, fields_say, said_of}
+use Rattle.pmb_json_objects.specs.Seen.{SeenData, basis_at, mode_at, page_at}
+use Rattle.pmb_json_objects.proofs.Commands.{at_each, is_device}
+use Rattle.pmb_json_objects.proofs.DataMembers.{DecimalsAreNumbers, SaysAreOne}
 use Rattle.pmb_json_objects.proofs.Fine.{AreFine, DigitsAreNumbers, are_flat, are_writable, fine_of_both}
 use Rattle.pmb_json_objects.proofs.Keys.{HaveKeys, followed, same_keys, tested}
 use Rattle.pmb_json_objects.proofs.Quantities.{LowestTermsAre}
@@ -27,41 +29,56 @@ use Rattle.pmb_json_objects.proofs.Shared.{command_keys, head_keys, part_keys}
 abbrev pub FewerAreDistinct : Type 0
 FewerAreDistinct = (some all : List (List ℕ)) → IsPart some all → AreDistinct all → AreDistinct some
 
-abbrev pub SevenKeys : Type 0
-SevenKeys = (digits : ℕ) (a : Access) (voltages : VoltagesData) (basis : Basis) (code : ℕ) (kind : Kind)
-    (bytes : List ℕ)
-    → IsPart (keys (data_members digits a voltages basis code kind bytes)) data_keys
+abbrev pub NineKeys : Type 0
+NineKeys = (digits : ℕ) (a : Access) (voltages : VoltagesData) (basis : Basis) (c : CommandParts) (bytes : List ℕ)
+    → IsPart (keys (data_members digits a voltages basis c bytes)) data_keys
 
-abbrev pub DataKeysAreSome : Type 0
-DataKeysAreSome = (seen : SeenData) (a : Access) (addr code : ℕ) (bytes : List ℕ)
-    → HaveKeys (said_of seen a addr code bytes) data_keys
+-- ---- the keys of what is said of data, and of what their fields say
 
-said_of_entry : SevenKeys → (seen : SeenData) (a : Access) (addr code : ℕ) (device : DeviceParts)
-    (entry : Option EntryParts) (bytes : List ℕ)
-    → HaveKeys (data_of_entry seen a addr code device entry bytes) data_keys
-said_of_entry seven seen a addr code device None bytes = tested [] data_keys refl
-said_of_entry seven seen a addr code device (Some entry) bytes =
-    record {
-      part =
-          seven seen.digits a (voltages_of device (mode_at seen addr) (page_at seen addr)) (basis_at seen addr) code
-          entry.kind bytes;
-    }
+abbrev pub says_key : List (List ℕ)
+says_key = codes "says" ∷ []
 
-said_of_device : SevenKeys → (seen : SeenData) (a : Access) (addr code : ℕ) (device : Option DeviceParts)
-    (bytes : List ℕ) → HaveKeys (data_of seen a addr code device bytes) data_keys
-said_of_device seven seen a addr code None bytes = tested [] data_keys refl
-said_of_device seven seen a addr code (Some device) bytes = said_of_entry seven seen a addr code device
-    (entry_of (Some device) code) bytes
+abbrev pub meaning_keys : List (List ℕ)
+meaning_keys = data_keys ++ says_key
 
-keys_of_said : SevenKeys → DataKeysAreSome
-keys_of_said seven seen a addr code bytes = said_of_device seven seen a addr code (device_with addr seen.profile) bytes
+keys_of_says : (members : List Member) → IsSaysOrNone members → HaveKeys members says_key
+keys_of_says [] is = tested [] says_key refl
+keys_of_says (m ∷ []) is = record {
+  part = subst (λ (key : List ℕ). IsPart (key ∷ []) says_key) (sym is.key)
+      (tested (named (codes "says") null ∷ []) says_key refl).part;
+}
+keys_of_says (m ∷ other ∷ more) is = absurd is
+
+abbrev pub MeaningKeys : Type 0
+MeaningKeys = (seen : SeenData) (a : Access) (addr code : ℕ) (bytes : List ℕ) → IsBus seen.profile
+    → HaveKeys (said_of seen a addr code bytes) meaning_keys
+
+keys_of_said : NineKeys → SaysAreOne → MeaningKeys
+keys_of_said nine one seen a addr code bytes bus =
+    at_each (λ ms. HaveKeys ms meaning_keys) (tested [] meaning_keys refl) (data_of seen a addr bytes) seen addr code
+    (λ device c here there.
+    let voltages : VoltagesData = voltages_of device (mode_at seen addr) (page_at seen addr) in
+    followed (data_members seen.digits a voltages (basis_at seen addr) c bytes)
+    (fields_say (exchange_of a bytes) device c) data_keys says_key
+    (record { part = nine seen.digits a voltages (basis_at seen addr) c bytes })
+    (keys_of_says _ (one device c.entry (exchange_of a bytes) (is_device seen addr device here bus))))
+
+pub keys_of_call : SaysAreOne → (seen : SeenData) (addr code : ℕ) (first reply : List ℕ) → IsBus seen.profile
+    → HaveKeys (call_says seen addr code first reply) says_key
+keys_of_call one seen addr code first reply bus =
+    at_each (λ ms. HaveKeys ms says_key) (tested [] says_key refl) (fields_say (called first reply)) seen addr code
+    (λ device c here there.
+    keys_of_says _ (one device c.entry (called first reply) (is_device seen addr device here bus)))
+
+-- ---- all that lower crates say
 
 pub record Below : Type 0 where
-  -- what laws of `pmb_json_text`, `pmb_decimal`, `pmb_quantity` and `pmb_json_fields` say
+  -- what laws of `pmb_json_text`, `pmb_decimal`, `pmb_quantity`, `pmb_meaning` and `pmb_json_fields` say
   pub numbers : DigitsAreNumbers
   pub decimals : DecimalsAreNumbers
   pub lowest : LowestTermsAre
-  pub said : DataKeysAreSome
+  pub says : SaysAreOne
+  pub meaning : MeaningKeys
   pub fewer : FewerAreDistinct
   pub own : AreDistinct object_keys
 
@@ -70,13 +87,14 @@ abbrev pub TestedAreDistinct : Type 0
 TestedAreDistinct = (all : List (List ℕ)) → IsTrue (are_distinct all) → AreDistinct all
 
 -- from those laws
-pub below_of : DigitsAreNumbers → DecimalsAreNumbers → LowestTermsAre → SevenKeys → FewerAreDistinct → TestedAreDistinct
-    → Below
-below_of numbers decimals lowest seven fewer distinct = record {
+pub below_of : DigitsAreNumbers → DecimalsAreNumbers → LowestTermsAre → NineKeys → SaysAreOne → FewerAreDistinct
+    → TestedAreDistinct → Below
+below_of numbers decimals lowest nine one fewer distinct = record {
   numbers = numbers;
   decimals = decimals;
   lowest = lowest;
-  said = keys_of_said seven;
+  says = one;
+  meaning = keys_of_said nine one;
   fewer = fewer;
   own = distinct object_keys refl;
 }
@@ -120,7 +138,7 @@ bytes_keys = codes "bytes" ∷ codes "byte" ∷ codes "sent" ∷ codes "reply" �
     ∷ codes "word" ∷ []
 
 abbrev pub last_keys : List (List ℕ)
-last_keys = bytes_keys ++ data_keys
+last_keys = bytes_keys ++ meaning_keys
 
 pub in_order : (front device command last : List Member) → HaveKeys front front_keys → HaveKeys device device_keys
     → HaveKeys command (refused_keys ++ command_keys) → HaveKeys last last_keys

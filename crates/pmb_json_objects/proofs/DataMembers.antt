@@ -1,22 +1,28 @@
--- What is said of a command's data can be written as JSON: values, numbers, bits and what is raw.
--- For the law `objects_are_json`. Each code's value is a quantity (Quantities), whose nearest
--- decimal is a number; other texts are bytes below 256.
+-- What is said of a command's data can be written as JSON: values, numbers, units, bits, what is raw,
+-- texts, and what fields say. For the law `objects_are_json`. Each code's value is a quantity
+-- (Quantities), whose nearest decimal is a number; other texts are bytes below 256.
 use Rattle.std.proofs.Common.{◌≡◌, ℕ, ◌+◌, ◌*◌, ◌/◌, ◌%◌, ◌^◌, ◌<◌, ◌==◌, if◌then◌else◌, Bool, true, false, Option}
-use Rattle.std.proofs.Common.{Some, None, Result, Ok, Err, List, [], ◌∷◌, codes, refl, arith}
-use Rattle.std.specs.Prelude.{IfSome, ⊤}
+use Rattle.std.proofs.Common.{Some, None, Result, Ok, Err, List, [], ◌∷◌, ◌++◌, codes, refl, sym, subst, arith}
+use Rattle.std.specs.Prelude.{IfSome, ◌&&◌, ⊤}
+use Rattle.std.specs.List.{list_all}
 use Rattle.pmb_coefficients.specs.Coefficients.{Coefficients}
 use Rattle.pmb_command.specs.declared.entry.Kind.{Kind}
-use Rattle.pmb_command.specs.declared.entry.Kind.TheVariants.{Raw, Number, Vout, VoutSigned, Status}
+use Rattle.pmb_command.specs.declared.entry.Kind.TheVariants.{Raw, Number, Vout, VoutSigned, Status, Text}
+use Rattle.pmb_command.specs.declared.form.Form.{Form}
+use Rattle.pmb_command.specs.Bus.{IsBus, IsDevice}
 use Rattle.pmb_command.specs.Entry.{EntryParts}
-use Rattle.pmb_command.specs.Parts.{DeviceParts, device_with}
+use Rattle.pmb_command.specs.Names.{is_printable}
+use Rattle.pmb_command.specs.Parts.{CommandParts, DeviceParts}
+use Rattle.pmb_command_data.specs.Text.{has_text, text_of}
 use Rattle.pmb_decimal.specs.Decimal.{rounded_text}
 use Rattle.pmb_json_fields.specs.declared.access.Access.{Access}
 use Rattle.pmb_json_fields.specs.declared.access.Access.TheVariants as access
 use Rattle.pmb_json_fields.specs.declared.basis.Basis.{Basis}
 use Rattle.pmb_json_fields.specs.declared.basis.Basis.TheVariants.{Told, Assumed}
-use Rattle.pmb_json_fields.specs.Value.{basis_members, bits_members, data_members, format_members, marked_members}
-use Rattle.pmb_json_fields.specs.Value.{no_voltage_name, number_members, of_word, quantity_members, raw_members}
-use Rattle.pmb_json_fields.specs.Value.{set_bits, status_members, value_members, voltage_members, vout_members}
+use Rattle.pmb_json_fields.specs.Value.{basis_members, bits_members, data_members, form_of, format_members}
+use Rattle.pmb_json_fields.specs.Value.{kind_members, marked_members, no_voltage_name, number_members, of_word}
+use Rattle.pmb_json_fields.specs.Value.{quantity_members, raw_members, set_bits, status_members, text_members}
+use Rattle.pmb_json_fields.specs.Value.{unit_members, value_members, voltage_members, voltage_unit, vout_members}
 use Rattle.pmb_json_fields.specs.Value.{word_fault_name}
 use Rattle.pmb_format.specs.Coding.{value_of}
 use Rattle.pmb_format.specs.Words.{twos_complement}
@@ -26,6 +32,9 @@ use Rattle.pmb_unknown_start.specs.declared.mode.KnownMode.TheVariants as known
 use Rattle.pmb_json_text.specs.Json.{IsNumber, string}
 use Rattle.pmb_json_text.specs.Spelling.{AreBytes}
 use Rattle.pmb_json_text.specs.Member.{Member, named}
+use Rattle.pmb_meaning.specs.Data.{Exchange, called}
+use Rattle.pmb_meaning.specs.Laws.{IsSaysOrNone}
+use Rattle.pmb_meaning.specs.Object.{says_members_of}
 use Rattle.pmb_quantity.specs.Fraction.{Fraction, IsQuantity}
 use Rattle.pmb_quantity.specs.QuantityText.{spelling}
 use Rattle.pmb_value.specs.NumberFormat.{number_coding}
@@ -49,10 +58,11 @@ use Rattle.pmb_voltage.specs.declared.voltage.VoltageFormat.{VoltageFormat}
 use Rattle.pmb_voltage.specs.Voltage.{VoltagesData, format_by, in_table, is_ratio, is_signed, meaning, named_format}
 use Rattle.pmb_voltage.specs.Voltage.{vid_format, vid_table, voltage_format, voltages_of}
 use Rattle.pmb_json_objects.specs.Laws.{AreOfWords, HasFormats, IsFormatOfWords, IsNumberOfWords, IsOfWords}
-use Rattle.pmb_json_objects.specs.Packets.{data_of, data_of_entry, said_of}
-use Rattle.pmb_json_objects.specs.Seen.{SeenData, basis_at, entry_of, mode_at, page_at}
-use Rattle.pmb_json_objects.proofs.Fine.{AreFine, IsFine, are_bytes, fine_of_both, fine_text, fine_texts, fine_word}
-use Rattle.pmb_json_objects.proofs.Fine.{of_either, tested_bytes}
+use Rattle.pmb_json_objects.specs.Packets.{call_says, data_of, exchange_of, fields_say, said_of}
+use Rattle.pmb_json_objects.specs.Seen.{SeenData, basis_at, mode_at, page_at}
+use Rattle.pmb_json_objects.proofs.Commands.{at_each, has_texts, is_device, kind_has_words, vout_has_words}
+use Rattle.pmb_json_objects.proofs.Fine.{AreFine, HasTexts, IsFine, are_bytes, fine_of_both, fine_text, fine_texts}
+use Rattle.pmb_json_objects.proofs.Fine.{fine_word, of_either, tested_bytes}
 use Rattle.pmb_json_objects.proofs.Quantities.{LowestTermsAre, five_bits, of_direct, of_half, of_linear11, of_slinear16}
 use Rattle.pmb_json_objects.proofs.Quantities.{of_ulinear16, of_vid}
 use Rattle.pmb_json_objects.proofs.Texts.{bits_are_bytes, spelling_is_bytes}
@@ -87,20 +97,52 @@ fine_no_voltage Vid = fine_raw (codes "vid") refl
 fine_no_voltage Relative = fine_raw (codes "relative") refl
 fine_no_voltage NoCoefficients = fine_raw (codes "coefficients") refl
 
-fine_bits : (a : Access) (code value bits : ℕ) → AreFine (bits_members a (set_bits code value bits))
-fine_bits access.Read code value bits = (
-  fine_texts (codes "bits") (set_bits code value bits) refl
-      (bits_are_bytes code value bits),
+fine_bits : (a : Access) (c : CommandParts) (value bits : ℕ) → HasTexts c
+    → AreFine (bits_members a (set_bits c value bits))
+fine_bits access.Read c value bits texts =
+    (fine_texts (codes "bits") (set_bits c value bits) refl (bits_are_bytes c value bits texts.bits), tt)
+fine_bits access.Write c value bits texts =
+    (fine_texts (codes "clears") (set_bits c value bits) refl (bits_are_bytes c value bits texts.bits), tt)
+
+fine_status : (a : Access) (c : CommandParts) (bytes : List ℕ) → HasTexts c → AreFine (status_members a c bytes)
+fine_status a c [] texts = tt
+fine_status a c (byte ∷ []) texts = fine_bits a c byte 8 texts
+fine_status a c (low ∷ high ∷ []) texts = fine_bits a c (low + 256 * high) 16 texts
+fine_status a c (x ∷ y ∷ z ∷ bytes) texts = tt
+
+fine_unit : (unit : Option (List ℕ)) → IfSome unit AreBytes → AreFine (unit_members unit)
+fine_unit None small = tt
+fine_unit (Some unit) small = (fine_text (codes "unit") unit refl small, tt)
+
+-- ---- texts
+
+text_is_bytes : (e : EntryParts) (form : Option Form) (bytes : List ℕ) → AreBytes bytes
+    → IfSome (text_of e form bytes) AreBytes
+text_is_bytes e form bytes small =
+    of_either (λ o. IfSome o AreBytes) (has_text e form && list_all is_printable bytes) (Some bytes) None small tt
+
+fine_characters : (text : Option (List ℕ)) → IfSome text AreBytes → AreFine (text_members text)
+fine_characters None small = tt
+fine_characters (Some text) small = (fine_text (codes "text") text refl small, tt)
+
+-- ---- what fields say
+
+-- that it is one member or none
+abbrev pub SaysAreOne : Type 0
+SaysAreOne = (device : DeviceParts) (e : EntryParts) (payload : Exchange) → IsDevice device
+    → IsSaysOrNone (says_members_of device e payload)
+
+fine_says : (members : List Member) → IsSaysOrNone members → AreFine members
+fine_says [] is = tt
+fine_says (m ∷ []) is = (
+  record {
+    key = subst AreBytes (sym is.key) (tested_bytes (codes "says") refl);
+    value = is.writable;
+    flat = is.distinct;
+  },
   tt,
 )
-fine_bits access.Write code value bits =
-    (fine_texts (codes "clears") (set_bits code value bits) refl (bits_are_bytes code value bits), tt)
-
-fine_status : (a : Access) (code : ℕ) (bytes : List ℕ) → AreFine (status_members a code bytes)
-fine_status a code [] = tt
-fine_status a code (byte ∷ []) = fine_bits a code byte 8
-fine_status a code (low ∷ high ∷ []) = fine_bits a code (low + 256 * high) 16
-fine_status a code (b ∷ c ∷ d ∷ bytes) = tt
+fine_says (m ∷ other ∷ more) is = absurd is
 
 -- ---- formats of output voltages
 
@@ -207,9 +249,12 @@ module _ (lowest : LowestTermsAre) (decimals : DecimalsAreNumbers) where
     (record { key = tested_bytes (codes "number") refl; value = decimals digits quantity is; flat = tt }, tt),
   )
 
-  fine_value : (digits : ℕ) (value : Result Fraction WordFault) → IsValue value → AreFine (value_members digits value)
-  fine_value digits (Ok quantity) is = fine_quantity digits quantity is
-  fine_value digits (Err fault) is = fine_fault fault
+  fine_value : (digits : ℕ) (unit : Option (List ℕ)) (value : Result Fraction WordFault) → IfSome unit AreBytes
+      → IsValue value → AreFine (value_members digits unit value)
+  fine_value digits unit (Ok quantity) small is =
+      fine_of_both (quantity_members digits quantity) (unit_members unit) (fine_quantity digits quantity is)
+      (fine_unit unit small)
+  fine_value digits unit (Err fault) small is = fine_fault fault
 
   format_gives_quantities : (format : VoutFormat) (word : ℕ) → IsFormatOfWords format → word < 65536
       → IsQuantity (value_of (vout_coding format) word)
@@ -242,59 +287,80 @@ module _ (lowest : LowestTermsAre) (decimals : DecimalsAreNumbers) where
   fine_voltage digits true quantity is = (fine_exact (codes "ratio") quantity refl, tt)
   fine_voltage digits false quantity is = fine_quantity digits quantity is
 
-  -- a value, and what its VOUT_MODE rests on
-  fine_marked : (digits : ℕ) (ratio : Bool) (basis : Basis) (value : Result Fraction WordFault) → IsValue value
-      → AreFine (marked_members digits ratio basis value)
-  fine_marked digits ratio basis (Ok quantity) is =
-      fine_of_both (voltage_members digits ratio quantity) (basis_members basis)
-      (fine_voltage digits ratio quantity is) (fine_basis basis)
-  fine_marked digits ratio basis (Err fault) is = fine_fault fault
+  fine_voltage_unit : (ratio : Bool) (unit : Option (List ℕ)) → IfSome unit AreBytes → AreFine (voltage_unit ratio unit)
+  fine_voltage_unit true unit small = tt
+  fine_voltage_unit false unit small = fine_unit unit small
 
-  fine_format : (digits : ℕ) (basis : Basis) (format : Result VoltageFormat NoVoltage) (word : ℕ)
-      → VoltageHasWords format → word < 65536 → AreFine (format_members digits basis format word)
-  fine_format digits basis (Ok format) word words fits =
-      fine_marked digits format.is_ratio basis (value_in format.number word) (is_value format.number word words fits)
-  fine_format digits basis (Err why) word words fits = fine_no_voltage why
+  -- a value, what its VOUT_MODE rests on, and its unit
+  fine_marked : (digits : ℕ) (unit : Option (List ℕ)) (ratio : Bool) (basis : Basis) (value : Result Fraction WordFault)
+      → IfSome unit AreBytes → IsValue value → AreFine (marked_members digits unit ratio basis value)
+  fine_marked digits unit ratio basis (Ok quantity) small is =
+      fine_of_both (voltage_members digits ratio quantity) (basis_members basis ++ voltage_unit ratio unit)
+      (fine_voltage digits ratio quantity is)
+      (fine_of_both (basis_members basis) (voltage_unit ratio unit) (fine_basis basis)
+      (fine_voltage_unit ratio unit small))
+  fine_marked digits unit ratio basis (Err fault) small is = fine_fault fault
 
-  fine_vout : (digits : ℕ) (v : VoltagesData) (basis : Basis) (code : ℕ) (sign : Sign) (word : ℕ)
-      → IfSome v.coefficients AreOfWords → word < 65536 → AreFine (vout_members digits v basis code sign word)
-  fine_vout digits v basis code sign word words fits =
-      fine_format digits basis (voltage_format v code sign) word (known_has_words v v.mode code sign words) fits
+  fine_format : (digits : ℕ) (unit : Option (List ℕ)) (basis : Basis) (format : Result VoltageFormat NoVoltage)
+      (word : ℕ)
+      → IfSome unit AreBytes → VoltageHasWords format → word < 65536
+      → AreFine (format_members digits unit basis format word)
+  fine_format digits unit basis (Ok format) word small words fits =
+      fine_marked digits unit format.is_ratio basis (value_in format.number word) small
+      (is_value format.number word words fits)
+  fine_format digits unit basis (Err why) word small words fits = fine_no_voltage why
+
+  fine_vout : (digits : ℕ) (v : VoltagesData) (basis : Basis) (c : CommandParts) (sign : Sign) (word : ℕ) → HasTexts c
+      → IfSome v.coefficients AreOfWords → word < 65536 → AreFine (vout_members digits v basis c sign word)
+  fine_vout digits v basis c sign word texts words fits =
+      fine_format digits c.unit basis (voltage_format v c.entry.code sign) word texts.unit
+      (known_has_words v v.mode c.entry.code sign words) fits
 
   -- ---- by the command's kind
 
-  fine_data : (digits : ℕ) (a : Access) (v : VoltagesData) (basis : Basis) (code : ℕ) (kind : Kind) (bytes : List ℕ)
-      → IfSome v.coefficients AreOfWords → IsOfWords kind → AreBytes bytes
-      → AreFine (data_members digits a v basis code kind bytes)
-  fine_data digits a v basis code Raw bytes vout words small = tt
-  fine_data digits a v basis code (Number format) bytes vout words small =
-      fine_of_word (number_members digits format) bytes
-      (λ word fits. fine_value digits (value_in format word) (is_value format word words fits)) small
-  fine_data digits a v basis code Vout bytes vout words small =
-      fine_of_word (vout_members digits v basis code Unsigned) bytes
-      (λ word fits. fine_vout digits v basis code Unsigned word vout fits) small
-  fine_data digits a v basis code VoutSigned bytes vout words small =
-      fine_of_word (vout_members digits v basis code Signed) bytes
-      (λ word fits. fine_vout digits v basis code Signed word vout fits) small
-  fine_data digits a v basis code Status bytes vout words small = fine_status a code bytes
-
-  fine_of_entry : (seen : SeenData) (a : Access) (addr code : ℕ) (device : DeviceParts) (entry : Option EntryParts)
+  fine_kind : (digits : ℕ) (a : Access) (v : VoltagesData) (basis : Basis) (c : CommandParts) (kind : Kind)
       (bytes : List ℕ)
-      → IfSome device.vout_direct AreOfWords → IfSome entry (λ e. IsOfWords e.kind) → AreBytes bytes
-      → AreFine (data_of_entry seen a addr code device entry bytes)
-  fine_of_entry seen a addr code device None bytes vout words small = tt
-  fine_of_entry seen a addr code device (Some entry) bytes vout words small =
-      fine_data seen.digits a (voltages_of device (mode_at seen addr) (page_at seen addr)) (basis_at seen addr) code
-      entry.kind bytes vout words small
+      → HasTexts c → IfSome v.coefficients AreOfWords → IsOfWords kind → AreBytes bytes
+      → AreFine (kind_members digits a v basis c kind bytes)
+  fine_kind digits a v basis c Raw bytes texts vout words small = tt
+  fine_kind digits a v basis c (Number format) bytes texts vout words small =
+      fine_of_word (number_members digits c.unit format) bytes
+      (λ word fits. fine_value digits c.unit (value_in format word) texts.unit (is_value format word words fits)) small
+  fine_kind digits a v basis c Vout bytes texts vout words small =
+      fine_of_word (vout_members digits v basis c Unsigned) bytes
+      (λ word fits. fine_vout digits v basis c Unsigned word texts vout fits) small
+  fine_kind digits a v basis c VoutSigned bytes texts vout words small =
+      fine_of_word (vout_members digits v basis c Signed) bytes
+      (λ word fits. fine_vout digits v basis c Signed word texts vout fits) small
+  fine_kind digits a v basis c Status bytes texts vout words small = fine_status a c bytes texts
+  fine_kind digits a v basis c Text bytes texts vout words small = tt
 
-  fine_of_device : (seen : SeenData) (a : Access) (addr code : ℕ) (device : Option DeviceParts) (bytes : List ℕ)
-      → IfSome device (λ d. IfSome d.vout_direct AreOfWords) → IfSome (entry_of device code) (λ e. IsOfWords e.kind)
-      → AreBytes bytes → AreFine (data_of seen a addr code device bytes)
-  fine_of_device seen a addr code None bytes vout words small = tt
-  fine_of_device seen a addr code (Some device) bytes vout words small = fine_of_entry seen a addr code device
-      (entry_of (Some device) code) bytes vout words small
+  fine_data : (digits : ℕ) (a : Access) (v : VoltagesData) (basis : Basis) (c : CommandParts) (bytes : List ℕ)
+      → HasTexts c → IfSome v.coefficients AreOfWords → IsOfWords c.entry.kind → AreBytes bytes
+      → AreFine (data_members digits a v basis c bytes)
+  fine_data digits a v basis c bytes texts vout words small =
+      let text : Option (List ℕ) = text_of c.entry (form_of a c.entry.shape) bytes in
+      fine_of_both (kind_members digits a v basis c c.entry.kind bytes) (text_members text)
+      (fine_kind digits a v basis c c.entry.kind bytes texts vout words small)
+      (fine_characters text (text_is_bytes c.entry (form_of a c.entry.shape) bytes small))
 
-  pub fine_said : (seen : SeenData) (a : Access) (addr code : ℕ) (bytes : List ℕ) → HasFormats seen addr code
-      → AreBytes bytes → AreFine (said_of seen a addr code bytes)
-  fine_said seen a addr code bytes formats small =
-      fine_of_device seen a addr code (device_with addr seen.profile) bytes formats.vout formats.kind small
+  -- of the command with a code of the device with an address
+  pub fine_said : SaysAreOne → (seen : SeenData) (a : Access) (addr code : ℕ) (bytes : List ℕ) → IsBus seen.profile
+      → HasFormats seen addr code → AreBytes bytes → AreFine (said_of seen a addr code bytes)
+  fine_said one seen a addr code bytes bus formats small =
+      at_each AreFine tt (data_of seen a addr bytes) seen addr code
+      (λ device c here there.
+      let voltages : VoltagesData = voltages_of device (mode_at seen addr) (page_at seen addr) in
+      let payload : Exchange = exchange_of a bytes in
+      fine_of_both (data_members seen.digits a voltages (basis_at seen addr) c bytes)
+      (fields_say payload device c)
+      (fine_data seen.digits a voltages (basis_at seen addr) c bytes
+      (has_texts seen addr device here code c there bus) (vout_has_words seen addr device here code formats)
+      (kind_has_words seen addr device here code c there formats) small)
+      (fine_says _ (one device c.entry payload (is_device seen addr device here bus))))
+
+pub fine_call : SaysAreOne → (seen : SeenData) (addr code : ℕ) (first reply : List ℕ) → IsBus seen.profile
+    → AreFine (call_says seen addr code first reply)
+fine_call one seen addr code first reply bus =
+    at_each AreFine tt (fields_say (called first reply)) seen addr code
+    (λ device c here there. fine_says _ (one device c.entry (called first reply) (is_device seen addr device here bus)))

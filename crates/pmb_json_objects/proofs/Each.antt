@@ -27,14 +27,16 @@ use Rattle.pmb_json_objects.specs.Laws.{IsCount, IsData, IsHead, IsJsonObject, I
 use Rattle.pmb_json_objects.specs.Members.{command_members, device_member, device_members, head_members, kind_member}
 use Rattle.pmb_json_objects.specs.Members.{part_members, sent_command}
 use Rattle.pmb_json_objects.specs.Names.{got_value}
-use Rattle.pmb_json_objects.specs.Packets.{alert_object, call_object, no_alert_object, other_object, read_object}
-use Rattle.pmb_json_objects.specs.Packets.{refused_check, refused_name, refused_object, said_of, write_object}
+use Rattle.pmb_json_objects.specs.Packets.{alert_object, call_object, call_says, no_alert_object, other_object}
+use Rattle.pmb_json_objects.specs.Packets.{read_object, refused_check, refused_name, refused_object, said_of}
+use Rattle.pmb_json_objects.specs.Packets.{write_object}
 use Rattle.pmb_json_objects.specs.Refusals.{due_pec, refusal_object, reply_members, right_pec_members}
 use Rattle.pmb_json_objects.specs.Refusals.{said_device_members, written_members}
 use Rattle.pmb_json_objects.specs.Seen.{SeenData}
 use Rattle.pmb_json_objects.proofs.Below.{Below, behind_refused, bytes_keys, device_keys, fine_in_row, front_keys}
-use Rattle.pmb_json_objects.proofs.Below.{in_order, json, keys_in_row, last_keys, refused_keys}
-use Rattle.pmb_json_objects.proofs.DataMembers.{fine_said}
+use Rattle.pmb_json_objects.proofs.Below.{in_order, json, keys_in_row, keys_of_call, last_keys, meaning_keys}
+use Rattle.pmb_json_objects.proofs.Below.{refused_keys, says_key}
+use Rattle.pmb_json_objects.proofs.DataMembers.{fine_call, fine_said}
 use Rattle.pmb_json_objects.proofs.Fine.{AreFine, IsFine, are_bytes, fine_boolean, fine_count, fine_digits, fine_null}
 use Rattle.pmb_json_objects.proofs.Fine.{fine_of_both, fine_text, fine_texts, fine_word}
 use Rattle.pmb_json_objects.proofs.Keys.{HaveKeys, are_part, followed, tested, within}
@@ -134,16 +136,16 @@ module _ (below : Below) where
         fine_digits (codes "bytes") p.bytes refl,
         (
           fine_boolean (codes "pec") p.pec refl,
-          fine_said below.lowest below.decimals seen access.Write p.addr p.code
-              p.bytes given.formats given.small,
+          fine_said below.lowest below.decimals below.says seen access.Write p.addr p.code p.bytes
+              given.device.bus given.formats given.small,
         ),
       ))
       -- and has its keys, in the order of all
       (in_order front device command (bytes ++ said) (keys_of_part_front head (codes "write") part parts)
       (keys_of_to seen.profile p.addr)
       (behind_refused [] command (tested [] refused_keys refl) (keys_of_command seen p.addr p.code))
-      (followed bytes said bytes_keys data_keys (tested _ bytes_keys refl)
-      (below.said seen access.Write p.addr p.code p.bytes)))
+      (followed bytes said bytes_keys meaning_keys (tested _ bytes_keys refl)
+      (below.meaning seen access.Write p.addr p.code p.bytes given.device.bus)))
 
   pub read_is_json : (seen : SeenData) (head : Head) (t : ReadData) → IsHead head → IsData seen t.addr t.code t.reply
       → IsJsonObject (read_object seen head t).members
@@ -159,33 +161,43 @@ module _ (below : Below) where
         fine_digits (codes "bytes") t.reply refl,
         (
           fine_boolean (codes "pec") t.pec refl,
-          fine_said below.lowest below.decimals seen access.Read t.addr t.code
-              t.reply given.formats given.small,
+          fine_said below.lowest below.decimals below.says seen access.Read t.addr t.code t.reply
+              given.device.bus given.formats given.small,
         ),
       ))
       (in_order begin device command (bytes ++ said) (keys_of_front head (codes "read"))
       (keys_of_to seen.profile t.addr)
       (behind_refused [] command (tested [] refused_keys refl) (keys_of_command seen t.addr t.code))
-      (followed bytes said bytes_keys data_keys (tested _ bytes_keys refl)
-      (below.said seen access.Read t.addr t.code t.reply)))
+      (followed bytes said bytes_keys meaning_keys (tested _ bytes_keys refl)
+      (below.meaning seen access.Read t.addr t.code t.reply given.device.bus)))
 
   pub call_is_json : (seen : SeenData) (head : Head) (t : CallData) → IsHead head → IsSeen seen t.addr
       → IsJsonObject (call_object seen head t).members
   call_is_json seen head t placed is =
+      let says : List Member = call_says seen t.addr t.code t.bytes t.reply in
       let bytes : List Member = named (codes "sent") (digits t.bytes) ∷ named (codes "reply") (digits t.reply)
       ∷ named (codes "pec") (boolean t.pec) ∷ [] in
       let begin : List Member = head_members head (codes "call") in
       let device : List Member = device_members seen.profile t.addr in
       let command : List Member = command_members seen t.addr t.code in
+      let first_keys : List (List ℕ) = bytes_keys ++ data_keys in
       json below (call_object seen head t).members
-      (fine_in_row begin device command bytes (fine_head below.numbers head (codes "call") placed refl)
+      (fine_in_row begin device command (bytes ++ says) (fine_head below.numbers head (codes "call") placed refl)
       (fine_device seen.profile t.addr is.bus) (fine_command below.numbers seen t.addr t.code is) (
         fine_digits (codes "sent") t.bytes refl,
-        (fine_digits (codes "reply") t.reply refl, (fine_boolean (codes "pec") t.pec refl, tt)),
+        (
+          fine_digits (codes "reply") t.reply refl,
+          (
+            fine_boolean (codes "pec") t.pec refl,
+            fine_call below.says seen t.addr t.code t.bytes t.reply is.bus,
+          ),
+        ),
       ))
-      (in_order begin device command bytes (keys_of_front head (codes "call")) (keys_of_to seen.profile t.addr)
+      (in_order begin device command (bytes ++ says) (keys_of_front head (codes "call"))
+      (keys_of_to seen.profile t.addr)
       (behind_refused [] command (tested [] refused_keys refl) (keys_of_command seen t.addr t.code))
-      (tested _ last_keys refl))
+      (followed bytes says first_keys says_key (tested _ first_keys refl)
+      (keys_of_call below.says seen t.addr t.code t.bytes t.reply is.bus)))
 
   pub refused_is_json : (seen : SeenData) (head : Head) (parts addr : ℕ) (bytes : List ℕ) (at_read : Bool)
       → IsHead head → IsCount parts → IsSeen seen addr

@@ -1,18 +1,19 @@
 -- Members that can be written as JSON and whose values hold no object with a key twice (`IsFine`):
 -- texts, digits, counts, tests and lists of texts. For the laws `objects_are_json` and
--- `all_objects_are_json`. Keys of the source are tested by computation, and names of commands are
--- bytes by what acceptance tested.
-use Rattle.std.proofs.Common.{◌≡◌, ℕ, ◌<◌, ◌^◌, ◌/◌, ◌%◌, Bool, true, false, nat_lt, nat_eq, if◌then◌else◌, Option}
+-- `all_objects_are_json`. Keys of the source are tested by computation, and the name, the unit and the
+-- names of bits of a command are bytes by what acceptance tested.
+use Rattle.std.proofs.Common.{◌≡◌, ℕ, ◌<◌, ◌≤◌, ◌^◌, ◌/◌, ◌%◌, Bool, true, false, nat_lt, nat_eq, if◌then◌else◌, Option}
 use Rattle.std.proofs.Common.{Some, None, List, [], ◌∷◌, ◌++◌, codes, decimal, get_or, map, refl, sym, subst, arith}
 use Rattle.std.proofs.Common.{inl, inr, zero, suc}
-use Rattle.std.specs.Prelude.{IfSome, option_map}
+use Rattle.std.specs.Prelude.{IfSome}
 use Rattle.std.specs.List.{AllByRecursion, find, list_all, list_any}
 use Rattle.std.proofs.lemmas.Bool.{and_parts, cases_Bool, eqb-true, ltb-true}
 use Rattle.hex.specs.Hex.{encode_lower, encode_with, lower_digits}
-use Rattle.pmb_command.specs.Bus.{IsCommand}
+use Rattle.pmb_command.specs.Bus.{IsBit, IsCommand, IsUnitOf}
+use Rattle.pmb_command.specs.declared.entry.Kind.{Kind}
 use Rattle.pmb_command.specs.Entry.{EntryParts}
-use Rattle.pmb_command.specs.Names.{IsNameOf, is_name_byte, name_characters}
-use Rattle.pmb_command.specs.Parts.{CommandParts}
+use Rattle.pmb_command.specs.Names.{IsNameOf, is_name, is_name_byte, name_characters}
+use Rattle.pmb_command.specs.Parts.{CommandParts, NamedBit}
 use Rattle.pmb_json_text.specs.Json.{HasDistinctKeys, IsNumber, ItemsHaveDistinctKeys, MembersHaveDistinctKeys, null}
 use Rattle.pmb_json_text.specs.Json.{boolean, string}
 use Rattle.pmb_json_text.specs.Member.{AreWritable, Member, array_of, count, digits, items_of, members_of, named}
@@ -118,7 +119,7 @@ pub fine_count : DigitsAreNumbers → (key : List ℕ) (n : ℕ) → are_bytes k
     → IsFine (named key (count n))
 fine_count numbers key n plain few = record { key = tested_bytes key plain; value = numbers n few; flat = tt }
 
--- ---- names of commands
+-- ---- the texts of a command
 
 -- what holds of each holds of the one that is found
 pub of_found : {A : Type 0} (P : A → Type 0) (test : A → Bool) (xs : List A) → AllByRecursion P xs
@@ -142,17 +143,40 @@ name_bytes (byte ∷ text) test =
     let here = and_parts (is_name_byte byte) (list_all is_name_byte text) test in
     (one_of_bytes name_characters byte (tested_bytes name_characters refl) here.0, name_bytes text here.1)
 
-name_is_bytes : (code : ℕ) (name : List ℕ) → IsNameOf code name → AreBytes name
-name_is_bytes code name is =
+name_is_bytes : (name : List ℕ) → is_name name ≡ true → AreBytes name
+name_is_bytes name is = name_bytes name (and_parts _ (list_all is_name_byte name) is).1
+
+command_name_is_bytes : (code : ℕ) (name : List ℕ) → IsNameOf code name → AreBytes name
+command_name_is_bytes code name is =
     elim is.spelled [
-      | inl fits ↦ name_bytes name (and_parts _ (list_all is_name_byte name) fits).1
+      | inl fits ↦ name_is_bytes name fits
       | inr made ↦ subst AreBytes (sym made) (all_of_both (λ byte. byte < 256) (codes "CMD_") (encode_lower (code ∷ []))
           (tested_bytes (codes "CMD_") refl) (digits_are_bytes (code ∷ [])))
     ]
 
-abbrev pub HasNameOfBytes : EntryParts → Type 0
-HasNameOfBytes e = AreBytes e.name
+-- characters from 20h to 7eh
+pub printed_bytes : (text : List ℕ) → AllByRecursion (λ b. (0x20 ≤ b) × (b ≤ 0x7e)) text → AreBytes text
+printed_bytes [] printable = tt
+printed_bytes (byte ∷ text) printable = (omega (arith, printable.0.1), printed_bytes text printable.1)
 
-pub command_name : (o : Option CommandParts) → IfSome o IsCommand → IfSome (option_map (λ c. c.entry) o) HasNameOfBytes
-command_name None is = tt
-command_name (Some c) is = name_is_bytes c.entry.code c.entry.name is.entry.name
+unit_is_bytes : (kind : Kind) (unit : Option (List ℕ)) → IfSome unit (IsUnitOf kind) → IfSome unit AreBytes
+unit_is_bytes kind None is = tt
+unit_is_bytes kind (Some unit) is = printed_bytes unit is.text.printable
+
+bits_have_names : (e : EntryParts) (bits : List NamedBit) → AllByRecursion (IsBit e) bits
+    → AllByRecursion (λ b. AreBytes b.name) bits
+bits_have_names e [] are = tt
+bits_have_names e (b ∷ bits) are = (name_is_bytes b.name are.0.name, bits_have_names e bits are.1)
+
+-- The texts of a command are bytes: its name, its unit, and the names that the profile gives its bits.
+pub record HasTexts (c : CommandParts) : Type 0 where
+  pub name : AreBytes c.entry.name
+  pub unit : IfSome c.unit AreBytes
+  pub bits : AllByRecursion (λ b. AreBytes b.name) c.bits
+
+pub command_texts : (c : CommandParts) → IsCommand c → HasTexts c
+command_texts c is = record {
+  name = command_name_is_bytes c.entry.code c.entry.name is.entry.name;
+  unit = unit_is_bytes c.entry.kind c.unit is.unit;
+  bits = bits_have_names c.entry c.bits is.bits.each;
+}

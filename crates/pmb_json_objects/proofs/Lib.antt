@@ -1,6 +1,7 @@
 pub mod All
 pub mod Below
 pub mod Checked
+pub mod Commands
 pub mod Counting
 pub mod DataMembers
 pub mod Each

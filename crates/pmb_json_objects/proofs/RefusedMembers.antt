@@ -12,7 +12,6 @@ use Rattle.pmb_bus.specs.Kinds.{holds}
 use Rattle.pmb_bus.specs.Pec.{pec}
 use Rattle.pmb_command.specs.Bus.{IsBus}
 use Rattle.pmb_command.specs.Parts.{DeviceParts}
-use Rattle.pmb_json_fields.specs.Laws.{data_keys}
 use Rattle.pmb_json_text.specs.Json.{Json}
 use Rattle.pmb_json_text.specs.Member.{Member, digits, named}
 use Rattle.pmb_json_text.specs.Spelling.{AreBytes}
@@ -29,7 +28,7 @@ use Rattle.pmb_json_objects.specs.Packets.{checked_members, is_whole_write, last
 use Rattle.pmb_json_objects.specs.Packets.{right_members}
 use Rattle.pmb_json_objects.specs.Refusals.{reply_members, right_pec_members, said_device_members, written_members}
 use Rattle.pmb_json_objects.specs.Seen.{SeenData}
-use Rattle.pmb_json_objects.proofs.Below.{Below, refused_keys}
+use Rattle.pmb_json_objects.proofs.Below.{Below, meaning_keys, refused_keys}
 use Rattle.pmb_json_objects.proofs.Fine.{AreFine, IsFine, fine_digits, fine_null, fine_of_both, fine_text, fine_word}
 use Rattle.pmb_json_objects.proofs.Fine.{of_either, tested_bytes}
 use Rattle.pmb_json_objects.proofs.Keys.{HaveKeys, followed, keys_of_either, tested, within}
@@ -64,7 +63,7 @@ fine_check addr device sent true = tt
 fine_check addr device sent false = fine_checked addr device (but_last sent) (last_byte sent)
 
 abbrev pub check_keys : List (List ℕ)
-check_keys = codes "reply" ∷ codes "pec" ∷ codes "right_pec" ∷ codes "word" ∷ data_keys
+check_keys = codes "reply" ∷ codes "pec" ∷ codes "right_pec" ∷ codes "word" ∷ meaning_keys
 
 keys_of_checked : (addr : ℕ) (device : Option DeviceParts) (front : List ℕ) (last : Option ℕ)
     → HaveKeys (checked_members addr device front last) check_keys
@@ -142,7 +141,7 @@ abbrev pub sent_keys : List (List ℕ)
 sent_keys = codes "bytes" ∷ codes "byte" ∷ codes "sent" ∷ []
 
 abbrev pub due_keys : List (List ℕ)
-due_keys = codes "pec" ∷ codes "right_pec" ∷ codes "word" ∷ data_keys
+due_keys = codes "pec" ∷ codes "right_pec" ∷ codes "word" ∷ meaning_keys
 
 pub keys_of_said_device : (profile : List DeviceParts) (device : Option ℕ)
     → HaveKeys (said_device_members profile device) said_keys

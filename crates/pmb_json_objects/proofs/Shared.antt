@@ -1,29 +1,28 @@
--- The members that objects share: where an object begins and when, the part, the device, the command
--- and PAGE. They can be written, and which keys they have. For the law `objects_are_json`, by Each.
--- PAGE and the command's name are bytes, by what is seen of the device.
-use Rattle.std.proofs.Common.{◌≡◌, ℕ, ◌<◌, ◌≤◌, Bool, true, false, nat_eq, nat_le, Option, Some, None, List, [], ◌∷◌}
+-- The members that objects share: where an object begins and when, the part, the device, the command,
+-- PAGE and PHASE. They can be written, and which keys they have. For the law `objects_are_json`, by Each.
+-- PAGE, PHASE and the command's name are bytes, by what is seen of the device.
+use Rattle.std.proofs.Common.{◌≡◌, ℕ, ◌<◌, Bool, true, false, nat_eq, nat_le, Option, Some, None, List, [], ◌∷◌}
 use Rattle.std.proofs.Common.{◌++◌, codes, refl, arith}
-use Rattle.std.specs.List.{AllByRecursion}
 use Rattle.std.specs.Prelude.{IfSome, option_and_then}
 use Rattle.pmb_command.specs.Bus.{IsBus, IsDevice}
-use Rattle.pmb_command.specs.Entry.{EntryParts}
 use Rattle.pmb_command.specs.Names.{IsDeviceName}
-use Rattle.pmb_command.specs.Parts.{DeviceParts, command_with, device_with}
-use Rattle.pmb_note.specs.Paging.{all_pages}
+use Rattle.pmb_command.specs.Parts.{CommandParts, DeviceParts, device_with}
+use Rattle.pmb_command_data.specs.Phases.{has_phases}
 use Rattle.pmb_json_text.specs.Json.{string}
-use Rattle.pmb_json_text.specs.Member.{count, named}
-use Rattle.pmb_json_text.specs.Spelling.{AreBytes, IsWritable}
+use Rattle.pmb_json_text.specs.Member.{Member, count, named}
+use Rattle.pmb_json_text.specs.Spelling.{IsWritable}
 use Rattle.pmb_json_text.specs.Json.{HasDistinctKeys}
 use Rattle.pmb_json_objects.specs.Head.{Head}
 use Rattle.pmb_json_objects.specs.Laws.{IsCount, IsHead, IsSeen, IsTime}
-use Rattle.pmb_json_objects.specs.Members.{code_member, command_members, device_member, device_members, entry_members}
-use Rattle.pmb_json_objects.specs.Members.{head_members, kind_member, name_at as name_of_device, name_members}
-use Rattle.pmb_json_objects.specs.Members.{page_member, page_value, part_members, sent_command, time_members}
-use Rattle.pmb_json_objects.specs.Members.{where_members}
-use Rattle.pmb_json_objects.specs.Seen.{SeenData, entry_at, entry_of, page_at}
-use Rattle.pmb_json_objects.proofs.Fine.{AreFine, DigitsAreNumbers, HasNameOfBytes, IsFine, are_bytes, command_name}
-use Rattle.pmb_json_objects.proofs.Fine.{fine_count, fine_digits, fine_null, fine_of_both, fine_text, fine_word}
-use Rattle.pmb_json_objects.proofs.Fine.{of_either, of_found, tested_bytes}
+use Rattle.pmb_json_objects.specs.Members.{at_command, code_member, command_members, device_member, device_members}
+use Rattle.pmb_json_objects.specs.Members.{entry_members, head_members, kind_member, name_at, name_members}
+use Rattle.pmb_json_objects.specs.Members.{page_member, part_members, phase_member, selected_value, sent_command}
+use Rattle.pmb_json_objects.specs.Members.{time_members, where_members}
+use Rattle.pmb_json_objects.specs.Seen.{SeenData, page_at, phase_at}
+use Rattle.pmb_json_objects.proofs.Commands.{at_each, has_texts}
+use Rattle.pmb_json_objects.proofs.Fine.{AreFine, DigitsAreNumbers, HasTexts, IsFine, are_bytes, fine_count}
+use Rattle.pmb_json_objects.proofs.Fine.{fine_digits, fine_null, fine_of_both, fine_text, fine_word, of_either}
+use Rattle.pmb_json_objects.proofs.Fine.{of_found, printed_bytes, tested_bytes}
 use Rattle.pmb_json_objects.proofs.Keys.{HaveKeys, keys_of_either, tested, followed}
 
 -- ---- the keys of each, in the order of all
@@ -38,24 +37,9 @@ abbrev pub name_keys : List (List ℕ)
 name_keys = codes "device" ∷ codes "name" ∷ []
 
 abbrev pub command_keys : List (List ℕ)
-command_keys = codes "code" ∷ codes "command" ∷ codes "page" ∷ []
-
--- ---- an entry
-
-entry_is_named : (code : ℕ) (o : Option DeviceParts) → IfSome o IsDevice → IfSome (entry_of o code) HasNameOfBytes
-entry_is_named code None is = tt
-entry_is_named code (Some device) is = command_name (command_with code device.commands)
-    (of_found _ (λ c. nat_eq c.entry.code code) device.commands is.commands)
-
-pub name_at : (seen : SeenData) (addr code : ℕ) → IsBus seen.profile → IfSome (entry_at seen addr code) HasNameOfBytes
-name_at seen addr code bus = entry_is_named code (device_with addr seen.profile)
-    (of_found IsDevice (λ d. nat_eq d.address addr) seen.profile bus.devices)
+command_keys = codes "code" ∷ codes "command" ∷ codes "page" ∷ codes "phase" ∷ []
 
 -- ---- a device
-
-printed_bytes : (text : List ℕ) → AllByRecursion (λ b. (0x20 ≤ b) × (b ≤ 0x7e)) text → AreBytes text
-printed_bytes [] printable = tt
-printed_bytes (byte ∷ text) printable = (omega (arith, printable.0.1), printed_bytes text printable.1)
 
 fine_name : (name : Option (List ℕ)) → IfSome name IsDeviceName → AreFine (name_members name)
 fine_name None is = tt
@@ -101,32 +85,42 @@ module _ (numbers : DigitsAreNumbers) where
 
   -- ---- a command
 
-  fine_page_value : (page : ℕ) → page < 256 → IsFine (named (codes "page") (page_value (Some page)))
-  fine_page_value page small = record {
-    key = tested_bytes (codes "page") refl;
-    value = of_either IsWritable (nat_eq page all_pages) (string (codes "all")) (count page)
-        (tested_bytes (codes "all") refl) (numbers page (omega arith));
-    flat = of_either HasDistinctKeys (nat_eq page all_pages) (string (codes "all")) (count page) tt tt;
+  fine_number : (key : List ℕ) (n : ℕ) → are_bytes key ≡ true → n < 256
+      → IsFine (named key (selected_value (Some n)))
+  fine_number key n plain small = record {
+    key = tested_bytes key plain;
+    value = of_either IsWritable (nat_eq n 0xff) (string (codes "all")) (count n)
+        (tested_bytes (codes "all") refl) (numbers n (omega arith));
+    flat = of_either HasDistinctKeys (nat_eq n 0xff) (string (codes "all")) (count n) tt tt;
   }
 
-  fine_page : (paged : Bool) (page : Option ℕ) → IfSome page (λ p. p < 256) → AreFine (page_member paged page)
-  fine_page false page small = tt
-  fine_page true None small = (fine_null (codes "page") refl, tt)
-  fine_page true (Some page) small = (fine_page_value page small, tt)
+  fine_selected : (key : List ℕ) (selected : Option ℕ) → are_bytes key ≡ true → IfSome selected (λ n. n < 256)
+      → IsFine (named key (selected_value selected))
+  fine_selected key None plain small = fine_null key plain
+  fine_selected key (Some n) plain small = fine_number key n plain small
 
-  fine_entry : (page : Option ℕ) (o : Option EntryParts) → IfSome page (λ p. p < 256) → IfSome o HasNameOfBytes
-      → AreFine (entry_members page o)
-  fine_entry page None small is = tt
-  fine_entry page (Some entry) small is = (
-    fine_text (codes "command") entry.name refl is,
-    fine_page entry.paged page small,
+  fine_page : (paged : Bool) (page : Option ℕ) → IfSome page (λ n. n < 256) → AreFine (page_member paged page)
+  fine_page false page small = tt
+  fine_page true page small = (fine_selected (codes "page") page refl small, tt)
+
+  fine_phase : (phased : Bool) (phase : Option ℕ) → IfSome phase (λ n. n < 256) → AreFine (phase_member phased phase)
+  fine_phase false phase small = tt
+  fine_phase true phase small = (fine_selected (codes "phase") phase refl small, tt)
+
+  fine_entry : (page phase : Option ℕ) (device : DeviceParts) (c : CommandParts) → IfSome page (λ n. n < 256)
+      → IfSome phase (λ n. n < 256) → HasTexts c → AreFine (entry_members page phase device c)
+  fine_entry page phase device c small few texts = (
+    fine_text (codes "command") c.entry.name refl texts.name,
+    fine_of_both (page_member c.entry.paged page) (phase_member (has_phases device c) phase)
+        (fine_page c.entry.paged page small) (fine_phase (has_phases device c) phase few),
   )
 
   pub fine_command : (seen : SeenData) (addr code : ℕ) → IsSeen seen addr → AreFine (command_members seen addr code)
   fine_command seen addr code is = (
     fine_digits (codes "code") (code ∷ []) refl,
-    fine_entry (page_at seen addr) (entry_at seen addr code) is.page
-        (name_at seen addr code is.bus),
+    at_each AreFine tt (entry_members (page_at seen addr) (phase_at seen addr)) seen addr code
+        (λ device c here there. fine_entry (page_at seen addr) (phase_at seen addr) device c is.page is.phase
+        (has_texts seen addr device here code c there is.bus)),
   )
 
   pub fine_sent_command : (seen : SeenData) (addr : ℕ) (sent : List ℕ) → IsSeen seen addr
@@ -152,8 +146,8 @@ keys_of_name None = tested [] (codes "name" ∷ []) refl
 keys_of_name (Some name) = tested _ (codes "name" ∷ []) refl
 
 pub keys_of_device : (profile : List DeviceParts) (addr : ℕ) → HaveKeys (device_members profile addr) name_keys
-keys_of_device profile addr = followed (device_member addr) (name_members (name_of_device profile addr))
-    (codes "device" ∷ []) (codes "name" ∷ []) (tested _ _ refl) (keys_of_name (name_of_device profile addr))
+keys_of_device profile addr = followed (device_member addr) (name_members (name_at profile addr))
+    (codes "device" ∷ []) (codes "name" ∷ []) (tested _ _ refl) (keys_of_name (name_at profile addr))
 
 pub keys_of_part : (part parts : ℕ) → HaveKeys (part_members part parts) part_keys
 keys_of_part part parts = keys_of_either (nat_le parts 1) []
@@ -164,18 +158,30 @@ keys_of_page : (paged : Bool) (page : Option ℕ) → HaveKeys (page_member page
 keys_of_page false page = tested [] (codes "page" ∷ []) refl
 keys_of_page true page = tested _ (codes "page" ∷ []) refl
 
-keys_of_entry : (page : Option ℕ) (o : Option EntryParts)
-    → HaveKeys (entry_members page o) (codes "command" ∷ codes "page" ∷ [])
-keys_of_entry page None = tested [] (codes "command" ∷ codes "page" ∷ []) refl
-keys_of_entry page (Some entry) =
-    followed (named (codes "command") (string entry.name) ∷ []) (page_member entry.paged page) (codes "command" ∷ [])
-    (codes "page" ∷ []) (tested _ (codes "command" ∷ []) refl) (keys_of_page entry.paged page)
+keys_of_phase : (phased : Bool) (phase : Option ℕ) → HaveKeys (phase_member phased phase) (codes "phase" ∷ [])
+keys_of_phase false phase = tested [] (codes "phase" ∷ []) refl
+keys_of_phase true phase = tested _ (codes "phase" ∷ []) refl
+
+abbrev entry_keys : List (List ℕ)
+entry_keys = codes "command" ∷ codes "page" ∷ codes "phase" ∷ []
+
+keys_of_entry : (page phase : Option ℕ) (device : DeviceParts) (c : CommandParts)
+    → HaveKeys (entry_members page phase device c) entry_keys
+keys_of_entry page phase device c =
+    let paged : List Member = page_member c.entry.paged page in
+    let phased : List Member = phase_member (has_phases device c) phase in
+    followed (named (codes "command") (string c.entry.name) ∷ []) (paged ++ phased) (codes "command" ∷ [])
+    (codes "page" ∷ codes "phase" ∷ []) (tested _ (codes "command" ∷ []) refl)
+    (followed paged phased (codes "page" ∷ []) (codes "phase" ∷ []) (keys_of_page c.entry.paged page)
+    (keys_of_phase (has_phases device c) phase))
 
 pub keys_of_command : (seen : SeenData) (addr code : ℕ) → HaveKeys (command_members seen addr code) command_keys
 keys_of_command seen addr code =
-    followed (code_member code) (entry_members (page_at seen addr) (entry_at seen addr code)) (codes "code" ∷ [])
-    (codes "command" ∷ codes "page" ∷ []) (tested _ (codes "code" ∷ []) refl)
-    (keys_of_entry (page_at seen addr) (entry_at seen addr code))
+    let members = entry_members (page_at seen addr) (phase_at seen addr) in
+    followed (code_member code) (at_command seen addr code members) (codes "code" ∷ []) entry_keys
+    (tested _ (codes "code" ∷ []) refl)
+    (at_each (λ ms. HaveKeys ms entry_keys) (tested [] entry_keys refl) members seen addr code
+    (λ device c here there. keys_of_entry (page_at seen addr) (phase_at seen addr) device c))
 
 pub keys_of_sent_command : (seen : SeenData) (addr : ℕ) (sent : List ℕ)
     → HaveKeys (sent_command seen addr sent) command_keys

@@ -1,21 +1,24 @@
 -- The texts of numbers and of bits are bytes below 256. For the law `objects_are_json`, by
--- DataMembers. Digits are computed; the names of status bits are tested in the whole table.
+-- DataMembers. Digits are computed; the standard's names of status bits are tested in the whole table,
+-- and the profile's are bytes by what acceptance tested.
 use Rattle.std.proofs.Common.{◌≡◌, ℕ, zero, suc, ◌+◌, ◌*◌, ◌/◌, ◌%◌, ◌^◌, ◌<◌, Bool, true, false, ◌==◌, cond, nat_eq}
 use Rattle.std.proofs.Common.{nat_lt, Option, Some, None, List, [], ◌∷◌, ◌++◌, codes, decimal, ℤ, pos, negsuc}
 use Rattle.std.proofs.Common.{unsigned_abs, reverse, slice_get, refl, arith}
-use Rattle.std.specs.Prelude.{IfSome}
+use Rattle.std.specs.Prelude.{IfSome, option_map}
 use Rattle.std.specs.Fmt.{digit_glyph, digits, digits_onto}
 use Rattle.std.specs.List.{AllByRecursion, list_all}
 use Rattle.std.specs.Option.{option_flatten}
 use Rattle.std.proofs.lemmas.Bool.{and_parts}
+use Rattle.pmb_command.specs.Parts.{CommandParts, NamedBit, name_of_bit}
 use Rattle.pmb_command.specs.StatusBits.{BitNames, bit_text, status_bits}
+use Rattle.pmb_command_data.specs.Bits.{bit_text_in, or_name}
 use Rattle.pmb_json_fields.specs.Value.{set_bit, set_bits}
 use Rattle.pmb_note.specs.Note.{is_set, named_bit}
 use Rattle.pmb_json_text.specs.Spelling.{AreBytes}
 use Rattle.pmb_quantity.specs.Character.{zero_digit}
 use Rattle.pmb_quantity.specs.Fraction.{Fraction}
 use Rattle.pmb_quantity.specs.QuantityText.{after_point, magnitude_text, minus, padded, places_of, spelling}
-use Rattle.pmb_json_objects.proofs.Fine.{all_of_both, are_bytes, of_either, tested_bytes}
+use Rattle.pmb_json_objects.proofs.Fine.{all_of_both, are_bytes, of_either, of_found, tested_bytes}
 
 abbrev IsByte : ℕ → Type 0
 IsByte byte = byte < 256
@@ -108,16 +111,39 @@ bit_is_text : (code bit : ℕ) → IfSome (bit_text code bit) AreBytes
 unfolding bit_text
 bit_is_text code bit = all_texts (reverse (status_bits code)) (status_bits_are_texts code).each bit
 
+found_name : (o : Option NamedBit) → IfSome o (λ b. AreBytes b.name) → IfSome (option_map (λ b. b.name) o) AreBytes
+found_name None is = tt
+found_name (Some b) is = is
+
+name_of_bit_is_text : (bit : ℕ) (bits : List NamedBit) → AllByRecursion (λ b. AreBytes b.name) bits
+    → IfSome (name_of_bit bit bits) AreBytes
+name_of_bit_is_text bit bits are = found_name _ (of_found (λ b. AreBytes b.name) (λ b. nat_eq b.bit bit) bits are)
+
+or_name_is_text : (first second : Option (List ℕ)) → IfSome first AreBytes → IfSome second AreBytes
+    → IfSome (or_name first second) AreBytes
+or_name_is_text None second is other = other
+or_name_is_text (Some name) second is other = is
+
+-- the profile's, or else the standard's
+name_is_text : (bits : List NamedBit) (code bit : ℕ) → AllByRecursion (λ b. AreBytes b.name) bits
+    → IfSome (bit_text_in bits code bit) AreBytes
+name_is_text bits code bit are =
+    or_name_is_text (name_of_bit bit bits) (bit_text code bit) (name_of_bit_is_text bit bits are)
+    (bit_is_text code bit)
+
 named_bit_is_bytes : (name : Option (List ℕ)) (bit : ℕ) → IfSome name AreBytes → AreBytes (named_bit name bit)
 named_bit_is_bytes (Some name) bit small = small
 named_bit_is_bytes None bit small = both (codes "bit") (decimal bit) (tested_bytes (codes "bit") refl)
     (decimal_is_bytes bit)
 
-pub bits_are_bytes : (code value bits : ℕ) → AllByRecursion AreBytes (set_bits code value bits)
-bits_are_bytes code value zero = tt
-bits_are_bytes code value (suc bit) =
-    let name : List ℕ = named_bit (bit_text code bit) bit in
+pub bits_are_bytes : (c : CommandParts) (value bits : ℕ) → AllByRecursion (λ b. AreBytes b.name) c.bits
+    → AllByRecursion AreBytes (set_bits c value bits)
+bits_are_bytes c value zero are = tt
+bits_are_bytes c value (suc bit) are =
+    let text : Option (List ℕ) = bit_text_in c.bits c.entry.code bit in
+    let name : List ℕ = named_bit text bit in
     let here : AllByRecursion AreBytes (name ∷ []) =
-    (named_bit_is_bytes (bit_text code bit) bit (bit_is_text code bit), tt) in
-    all_of_both AreBytes (set_bit code value bit) (set_bits code value bit)
-    (of_either (AllByRecursion AreBytes) (is_set value bit) (name ∷ []) [] here tt) (bits_are_bytes code value bit)
+    (named_bit_is_bytes text bit (name_is_text c.bits c.entry.code bit are), tt) in
+    all_of_both AreBytes (set_bit c value bit) (set_bits c value bit)
+    (of_either (AllByRecursion AreBytes) (is_set value bit) (name ∷ []) [] here tt)
+    (bits_are_bytes c value bit are)

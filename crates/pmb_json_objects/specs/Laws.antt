@@ -4,7 +4,7 @@ use Rattle.std.specs.Prelude.{unsigned_abs}
 use Rattle.std.specs.List.{AllByRecursion}
 use Rattle.pmb_coefficients.specs.Coefficients.{Coefficients, MakeFormat}
 use Rattle.pmb_command.specs.declared.entry.Kind.{Kind}
-use Rattle.pmb_command.specs.declared.entry.Kind.TheVariants.{Raw, Number, Vout, VoutSigned, Status}
+use Rattle.pmb_command.specs.declared.entry.Kind.TheVariants.{Raw, Number, Vout, VoutSigned, Status, Text}
 use Rattle.pmb_value.specs.declared.number_format.NumberFormat.{NumberFormat}
 use Rattle.pmb_value.specs.declared.number_format.NumberFormat.TheVariants as formats
 use Rattle.pmb_value.specs.declared.vout.VoutFormat.{VoutFormat}
@@ -18,7 +18,7 @@ use Rattle.pmb_json_text.specs.Spelling.{AreBytes}
 use Rattle.pmb_places.specs.declared.places.Place.{Place}
 use Rattle.pmb_transaction.specs.Transaction.{PartData, TransactionData, Write, Read, Call, Refused, Alert, NoAlert}
 use Rattle.pmb_json_objects.specs.Head.{Head}
-use Rattle.pmb_json_objects.specs.Seen.{SeenData, entry_at, page_at}
+use Rattle.pmb_json_objects.specs.Seen.{SeenData, command_at, page_at, phase_at}
 
 -- ---- what is promised
 
@@ -34,9 +34,10 @@ object_keys =
     codes "at" ∷ codes "line" ∷ codes "column" ∷ codes "time" ∷ codes "kind" ∷ codes "part" ∷ codes "parts"
     ∷ codes "reason" ∷ codes "expected" ∷ codes "got" ∷ codes "device" ∷ codes "name"
     ∷ codes "writes" ∷ codes "reads" ∷ codes "calls" ∷ codes "packets" ∷ codes "refused" ∷ codes "refusals"
-    ∷ codes "bad_tokens" ∷ codes "others" ∷ codes "code" ∷ codes "command" ∷ codes "page"
+    ∷ codes "bad_tokens" ∷ codes "others" ∷ codes "code" ∷ codes "command" ∷ codes "page" ∷ codes "phase"
     ∷ codes "bytes" ∷ codes "byte" ∷ codes "sent" ∷ codes "reply" ∷ codes "pec" ∷ codes "right_pec" ∷ codes "word"
-    ∷ codes "value" ∷ codes "number" ∷ codes "ratio" ∷ codes "mode" ∷ codes "raw" ∷ codes "bits" ∷ codes "clears" ∷ []
+    ∷ codes "value" ∷ codes "number" ∷ codes "ratio" ∷ codes "mode" ∷ codes "unit" ∷ codes "raw" ∷ codes "bits"
+    ∷ codes "clears" ∷ codes "text" ∷ codes "says" ∷ []
 
 -- ---- numbers of 64 bits
 
@@ -84,17 +85,19 @@ IsOfWords (Number format) = IsNumberOfWords format
 IsOfWords Vout = ⊤
 IsOfWords VoutSigned = ⊤
 IsOfWords Status = ⊤
+IsOfWords Text = ⊤
 
--- The profile is accepted, and PAGE of the device with an address is a byte.
+-- The profile is accepted, and PAGE and PHASE of the device with an address are bytes.
 pub record IsSeen (seen : SeenData) (addr : ℕ) : Type 0 where
   pub bus : IsBus seen.profile
   pub page : IfSome (page_at seen addr) (λ page. page < 256)
+  pub phase : IfSome (phase_at seen addr) (λ phase. phase < 256)
 
 -- The coefficients of that device's output voltages have 16 bits and make a format, and the kind of its
 -- command with a code has such coefficients, or an exponent of five bits, where it has any.
 pub record HasFormats (seen : SeenData) (addr code : ℕ) : Type 0 where
   pub vout : IfSome (device_with addr seen.profile) (λ device. IfSome device.vout_direct AreOfWords)
-  pub kind : IfSome (entry_at seen addr code) (λ entry. IsOfWords entry.kind)
+  pub kind : IfSome (command_at seen addr code) (λ c. IsOfWords c.entry.kind)
 
 -- Data of that command: bytes.
 pub record IsData (seen : SeenData) (addr code : ℕ) (bytes : List ℕ) : Type 0 where

@@ -1,14 +1,13 @@
 -- The members that objects share.
 use Rattle.std.specs.Prelude.{ℕ, Bool, true, false, if◌then◌else◌, nat_eq, nat_le, Option, Some, None, List, [], ◌∷◌}
 use Rattle.std.specs.Prelude.{◌++◌, codes, option_and_then}
-use Rattle.pmb_command.specs.Entry.{EntryParts}
-use Rattle.pmb_command.specs.Parts.{DeviceParts, device_with}
-use Rattle.pmb_note.specs.Paging.{all_pages}
+use Rattle.pmb_command.specs.Parts.{CommandParts, DeviceParts, command_with, device_with}
+use Rattle.pmb_command_data.specs.Phases.{has_phases}
 use Rattle.pmb_json_text.specs.Json.{Json, null, string}
 use Rattle.pmb_json_text.specs.Member.{Member, named, count, digits}
 use Rattle.pmb_places.specs.declared.places.Place.{Place}
 use Rattle.pmb_json_objects.specs.Head.{Head}
-use Rattle.pmb_json_objects.specs.Seen.{SeenData, entry_at, page_at}
+use Rattle.pmb_json_objects.specs.Seen.{SeenData, page_at, phase_at}
 
 -- where the object begins: the number of its first event, and the place of that one's word
 abbrev pub where_members : ℕ → Place → List Member
@@ -46,24 +45,45 @@ device_members profile addr = device_member addr ++ name_members (name_at profil
 abbrev pub code_member : ℕ → List Member
 code_member code = named (codes "code") (digits (code ∷ [])) ∷ []
 
--- the selected page, where it is known
-abbrev pub page_value : Option ℕ → Json
-page_value None = null
-page_value (Some page) = if nat_eq page all_pages then string (codes "all") else count page
+-- the page or the phase that is selected, where it is known; ffh selects all
+abbrev pub selected_value : Option ℕ → Json
+selected_value None = null
+selected_value (Some n) = if nat_eq n 0xff then string (codes "all") else count n
 
 -- of a paged command alone
 abbrev pub page_member : Bool → Option ℕ → List Member
 page_member false page = []
-page_member true page = named (codes "page") (page_value page) ∷ []
+page_member true page = named (codes "page") (selected_value page) ∷ []
 
--- a command's name, and the page where it is paged; nothing where the device has no such command
-abbrev pub entry_members : Option ℕ → Option EntryParts → List Member
-entry_members page None = []
-entry_members page (Some entry) = named (codes "command") (string entry.name) ∷ page_member entry.paged page
+-- of a command that has phases alone
+abbrev pub phase_member : Bool → Option ℕ → List Member
+phase_member false phase = []
+phase_member true phase = named (codes "phase") (selected_value phase) ∷ []
 
--- code, command and page
+-- a command's name, the page where it is paged, and the phase where the device has phases for it
+abbrev pub entry_members : Option ℕ → Option ℕ → DeviceParts → CommandParts → List Member
+entry_members page phase device c =
+    named (codes "command") (string c.entry.name)
+    ∷ page_member c.entry.paged page ++ phase_member (has_phases device c) phase
+
+-- what is said of a device and a command of it, where the device has that one
+abbrev pub of_command : (DeviceParts → CommandParts → List Member) → DeviceParts → Option CommandParts → List Member
+of_command members device None = []
+of_command members device (Some c) = members device c
+
+-- .. where there is such a device
+abbrev pub of_device_command : (DeviceParts → CommandParts → List Member) → Option DeviceParts → ℕ → List Member
+of_device_command members None code = []
+of_device_command members (Some device) code = of_command members device (command_with code device.commands)
+
+-- .. of the command with a code of the device with an address
+abbrev pub at_command : SeenData → ℕ → ℕ → (DeviceParts → CommandParts → List Member) → List Member
+at_command seen addr code members = of_device_command members (device_with addr seen.profile) code
+
+-- code, command, page and phase
 abbrev pub command_members : SeenData → ℕ → ℕ → List Member
-command_members seen addr code = code_member code ++ entry_members (page_at seen addr) (entry_at seen addr code)
+command_members seen addr code =
+    code_member code ++ at_command seen addr code (entry_members (page_at seen addr) (phase_at seen addr))
 
 -- .. of bytes that were sent, where there is a code
 abbrev pub sent_command : SeenData → ℕ → List ℕ → List Member

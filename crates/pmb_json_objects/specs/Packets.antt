@@ -8,25 +8,26 @@ use Rattle.pmb_bus.specs.Pec.{pec}
 use Rattle.pmb_command.specs.declared.form.Form.{Form}
 use Rattle.pmb_command.specs.declared.pec_mode.PecMode.{PecMode}
 use Rattle.pmb_command.specs.declared.pec_mode.PecMode.TheVariants.{Off, On, Optional}
-use Rattle.pmb_command.specs.Entry.{EntryParts}
-use Rattle.pmb_command.specs.Parts.{DeviceParts, device_with}
+use Rattle.pmb_command.specs.Parts.{CommandParts, DeviceParts, device_with}
 use Rattle.pmb_command.specs.Wire.{wire_length}
 use Rattle.pmb_json_fields.specs.declared.access.Access.{Access}
 use Rattle.pmb_json_fields.specs.declared.access.Access.TheVariants as access
 use Rattle.pmb_json_fields.specs.Value.{data_members}
 use Rattle.pmb_json_text.specs.Json.{null, boolean, string}
 use Rattle.pmb_json_text.specs.Member.{Member, named, digits}
+use Rattle.pmb_meaning.specs.Data.{Exchange, called, read, written}
+use Rattle.pmb_meaning.specs.Object.{says_members_of}
 use Rattle.pmb_places.specs.declared.places.Place.{Place}
 use Rattle.pmb_partial_packet.specs.PartialPacket.{but_last}
 use Rattle.pmb_transaction.specs.Body.{forms}
 use Rattle.pmb_transaction.specs.Transaction.{PartData, ReadData, CallData, RefusedData, AlertData, TransactionData}
 use Rattle.pmb_transaction.specs.Transaction.{Write, Read, Call, Refused, Alert, NoAlert}
 use Rattle.pmb_json_objects.specs.Head.{Head, head_at}
-use Rattle.pmb_json_objects.specs.Members.{command_members, device_member, device_members, head_members, part_members}
-use Rattle.pmb_json_objects.specs.Members.{sent_command}
+use Rattle.pmb_json_objects.specs.Members.{at_command, command_members, device_member, device_members, head_members}
+use Rattle.pmb_json_objects.specs.Members.{part_members, sent_command}
 use Rattle.pmb_json_objects.specs.Object.{Object, of_device, of_none}
 use Rattle.pmb_voltage.specs.Voltage.{voltages_of}
-use Rattle.pmb_json_objects.specs.Seen.{SeenData, basis_at, entry_of, mode_at, page_at}
+use Rattle.pmb_json_objects.specs.Seen.{SeenData, basis_at, mode_at, page_at}
 
 -- the number of each START among events, before the first of which n came
 abbrev pub starts : ℕ → List Event → List ℕ
@@ -39,21 +40,29 @@ starts n (Stop ∷ events) = starts (n + 1) events
 
 -- ---- data
 
--- of a command that a device has
-abbrev pub data_of_entry : SeenData → Access → ℕ → ℕ → DeviceParts → Option EntryParts → List ℕ → List Member
-data_of_entry seen access addr code device None bytes = []
-data_of_entry seen access addr code device (Some entry) bytes =
-    data_members seen.digits access (voltages_of device (mode_at seen addr) (page_at seen addr)) (basis_at seen addr)
-    code entry.kind bytes
+-- data that are read from a device, or written to it
+abbrev pub exchange_of : Access → List ℕ → Exchange
+exchange_of access.Read bytes = read bytes
+exchange_of access.Write bytes = written bytes
 
-abbrev pub data_of : SeenData → Access → ℕ → ℕ → Option DeviceParts → List ℕ → List Member
-data_of seen access addr code None bytes = []
-data_of seen access addr code (Some device) bytes = data_of_entry seen access addr code device
-    (entry_of (Some device) code) bytes
+-- what the fields of the data of a device's command say
+abbrev pub fields_say : Exchange → DeviceParts → CommandParts → List Member
+fields_say payload device c = says_members_of device c.entry payload
+
+-- what the data of a device's command are, and then what their fields say
+abbrev pub data_of : SeenData → Access → ℕ → List ℕ → DeviceParts → CommandParts → List Member
+data_of seen access addr bytes device c =
+    data_members seen.digits access (voltages_of device (mode_at seen addr) (page_at seen addr)) (basis_at seen addr)
+    c bytes
+    ++ fields_say (exchange_of access bytes) device c
 
 -- what is said of what is read from a device, or written to it
 abbrev pub said_of : SeenData → Access → ℕ → ℕ → List ℕ → List Member
-said_of seen access addr code bytes = data_of seen access addr code (device_with addr seen.profile) bytes
+said_of seen access addr code bytes = at_command seen addr code (data_of seen access addr bytes)
+
+-- what the fields of what is sent and replied in a process call say
+abbrev pub call_says : SeenData → ℕ → ℕ → List ℕ → List ℕ → List Member
+call_says seen addr code first reply = at_command seen addr code (fields_say (called first reply))
 
 -- ---- a refused byte in the place of an error code
 
@@ -135,7 +144,7 @@ module _ (seen : SeenData) where
   call_object head t = of_device t.addr (
       head_members head (codes "call") ++ device_members seen.profile t.addr ++ command_members seen t.addr t.code
       ++ named (codes "sent") (digits t.bytes) ∷ named (codes "reply") (digits t.reply)
-      ∷ named (codes "pec") (boolean t.pec) ∷ [])
+      ∷ named (codes "pec") (boolean t.pec) ∷ call_says seen t.addr t.code t.bytes t.reply)
 
   -- the leg that was refused, as the last of so many parts
   abbrev pub refused_object : Head → ℕ → ℕ → List ℕ → Bool → Object

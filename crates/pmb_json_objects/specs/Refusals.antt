@@ -19,7 +19,7 @@ abbrev pub said_device_members : List DeviceParts → Option ℕ → List Member
 said_device_members profile None = []
 said_device_members profile (Some addr) = device_members profile addr
 
--- of the last leg that is written: code, command and page, and all bytes
+-- of the last leg that is written: code, command, page and phase, and all bytes
 abbrev pub written_members : SeenData → Option ℕ → Option (List ℕ) → List Member
 written_members seen None bytes = []
 written_members seen (Some addr) None = []

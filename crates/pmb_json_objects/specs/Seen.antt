@@ -1,10 +1,11 @@
 -- What is known where a packet begins: the devices, and what the transactions before it have told.
 use Rattle.std.specs.Prelude.{ℕ, Option, Some, None, List, option_map}
 use Rattle.pmb_command.specs.Entry.{EntryParts}
-use Rattle.pmb_command.specs.Parts.{DeviceParts, command_with, device_with}
+use Rattle.pmb_command.specs.Parts.{CommandParts, DeviceParts, command_with, device_with}
 use Rattle.pmb_unknown_start.specs.declared.mode.KnownMode.{KnownMode}
 use Rattle.pmb_unknown_start.specs.declared.start.Start.{Start}
 use Rattle.pmb_unknown_start.specs.Known.{is_assumed, mode, page}
+use Rattle.pmb_unknown_start.specs.Phase.{phase}
 use Rattle.pmb_json_fields.specs.declared.basis.Basis.{Basis}
 use Rattle.pmb_json_fields.specs.Value.{basis_of}
 use Rattle.pmb_transaction.specs.Transaction.{TransactionData}
@@ -18,17 +19,27 @@ pub record SeenData : Type 0 where
   pub before : List TransactionData
 
 -- a command of a device, if there are both
+abbrev pub command_of : Option DeviceParts → ℕ → Option CommandParts
+command_of None code = None
+command_of (Some device) code = command_with code device.commands
+
+-- its name, its forms and its kind
 abbrev pub entry_of : Option DeviceParts → ℕ → Option EntryParts
-entry_of None code = None
-entry_of (Some device) code = option_map (λ c. c.entry) (command_with code device.commands)
+entry_of device code = option_map (λ c. c.entry) (command_of device code)
 
 -- the command with a code of the device with an address
+abbrev pub command_at : SeenData → ℕ → ℕ → Option CommandParts
+command_at seen addr code = command_of (device_with addr seen.profile) code
+
 abbrev pub entry_at : SeenData → ℕ → ℕ → Option EntryParts
 entry_at seen addr code = entry_of (device_with addr seen.profile) code
 
--- PAGE of the device with an address, and the VOUT_MODE that its output voltages are read by
+-- PAGE and PHASE of the device with an address, and the VOUT_MODE that its output voltages are read by
 abbrev pub page_at : SeenData → ℕ → Option ℕ
 page_at seen addr = page seen.start seen.profile seen.before addr
+
+abbrev pub phase_at : SeenData → ℕ → Option ℕ
+phase_at seen addr = phase seen.profile seen.before addr
 
 abbrev pub mode_at : SeenData → ℕ → KnownMode
 mode_at seen addr = mode seen.start seen.profile seen.before addr

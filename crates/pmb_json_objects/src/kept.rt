@@ -1,36 +1,38 @@
 //! What the types of the parts of a [`Seen`] say of them. Each function ensures it, and changes nothing.
 
 ghost use Rattle.std.specs.Prelude.{◌<◌, IfSome, option_map};
-ghost use Rattle.pmb_command.specs.Entry.{entry_parts};
+ghost use Rattle.pmb_keys.specs.CommandView.{command_parts};
 ghost use Rattle.pmb_json_objects.specs.Laws.{AreOfWords, HasFormats, IsFormatOfWords, IsNumberOfWords, IsOfWords, IsSeen};
 ghost use Rattle.pmb_json_objects.specs.Seen.{SeenData};
 ghost use Rattle.pmb_json_objects.specs.Sees.{Sees};
 
 use crate::seen::Seen;
 use pmb_coefficients::Direct;
-use pmb_command::{Entry, Kind};
+use pmb_command::Kind;
+use pmb_keys::Command;
 use pmb_table::DeviceProfile;
 use pmb_table::laws::accepted_bus;
 use pmb_value::{NumberFormat, VoutFormat};
 
-/// The profile of a [`Seen`] is accepted, PAGE is a byte, coefficients have 16 bits and make a format, and
-/// exponents have five bits: what [`objects_are_json`](crate::laws::objects_are_json) needs of a device
-/// and its command.
+/// The profile of a [`Seen`] is accepted, PAGE and PHASE are bytes, coefficients have 16 bits and make a
+/// format, and exponents have five bits: what [`objects_are_json`](crate::laws::objects_are_json) needs of
+/// a device and its command.
 pub fn what_is_seen_fits(seen: &Seen<'_>, addr: u8, code: u8)
     ensures seen { (known : SeenData) → Sees seen.now known → IsSeen known addr }
     ensures formats { (known : SeenData) → Sees seen.now known → HasFormats known addr code }
 {
     accepted_bus(seen.profile);
-    page_is_a_byte(seen.page(addr));
+    is_a_byte(seen.page(addr));
+    is_a_byte(seen.phase(addr));
     device_has_words(seen.device(addr));
-    entry_has_words(seen.entry(addr, code));
+    command_has_words(seen.command(addr, code));
 }
 
-/// PAGE is a byte.
-fn page_is_a_byte(page: Option<u8>)
-    ensures { IfSome page (λ page. page < 256) }
+/// PAGE and PHASE are bytes.
+fn is_a_byte(selected: Option<u8>)
+    ensures { IfSome selected (λ byte. byte < 256) }
 {
-    let _ = page;
+    let _ = selected;
 }
 
 /// The coefficients of a device's output voltage.
@@ -43,11 +45,11 @@ fn device_has_words(device: Option<&DeviceProfile>)
 }
 
 /// Those of a command.
-fn entry_has_words(entry: Option<&Entry>)
-    ensures { IfSome (option_map (λ e. entry_parts e.now) entry.entry) (λ e. IsOfWords e.kind) }
+fn command_has_words(command: Option<&Command>)
+    ensures { IfSome (option_map (λ c. command_parts c.now) command.entry) (λ c. IsOfWords c.entry.kind) }
 {
-    if let Some(entry) = entry {
-        kind_has_words(entry.kind);
+    if let Some(command) = command {
+        kind_has_words(command.entry.kind);
     }
 }
 
@@ -66,7 +68,7 @@ fn kind_has_words(kind: Kind)
 {
     match kind {
         Kind::Number(format) => number_has_words(format),
-        Kind::Raw | Kind::Vout | Kind::VoutSigned | Kind::Status => {}
+        Kind::Raw | Kind::Vout | Kind::VoutSigned | Kind::Status | Kind::Text => {}
     }
 }
 

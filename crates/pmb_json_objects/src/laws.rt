@@ -24,11 +24,12 @@ ghost use Rattle.pmb_json_objects.specs.Seen.{SeenData};
 
 pub use crate::kept::what_is_seen_fits;
 use pmb_decimal::laws::decimals_are_numbers;
-use pmb_json_fields::laws::keys_are_some_of_seven;
+use pmb_json_fields::laws::keys_are_some_of_nine;
 use pmb_json_text::laws::{
     digits_are_a_number, fewer_keys_are_distinct, line_is_json, spelling_fits_in_line,
     tested_keys_are_distinct,
 };
+use pmb_meaning::laws::says_is_one_member_or_none;
 use pmb_quantity::laws::lowest_terms;
 
 /// The line of such an object is a JSON text that spells it, and, but for its LF, printable ASCII.
@@ -60,7 +61,8 @@ pub fn objects_are_json()
     ensures counts { (profile : List DeviceParts) (gives_others : Bool) (addr : ℕ) (c : DeviceData) → IsBus profile → IsJsonObject (counts_object profile gives_others addr c).members }
     ensures end { (gives_others : Bool) (c : CountsData) → IsJsonObject (end_object gives_others c).members }
 {
-    keys_are_some_of_seven();
+    keys_are_some_of_nine();
+    says_is_one_member_or_none();
     digits_are_a_number();
     decimals_are_numbers();
     lowest_terms();

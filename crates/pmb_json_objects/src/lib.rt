@@ -5,9 +5,11 @@
 //! [`no_alert_line`], [`other_line`] of a packet to an address that speaks no PMBus, [`refused_line`],
 //! [`refusal_line`], [`bad_token_line`] of a word that is no token, and at the end [`device_line`] of how
 //! often a device came and [`end_line`] of the totals, which [`Counts`] has counted. [`Head`] is where an
-//! object begins and when, and [`Seen`] what is known where a packet begins. [`is_wanted`] tells which
-//! objects are wanted. A line has at most [`OBJECT`] bytes. By the [`laws`] it is one JSON object with
-//! distinct keys, and LF.
+//! object begins and when, and [`Seen`] what is known where a packet begins. With each command code goes
+//! the command's name, its page and its phase, and with data what they mean: a number with its unit, the
+//! bits of a status register, a text, and what their fields say. [`is_wanted`] tells which objects are
+//! wanted. A line has at most [`OBJECT`] bytes. By the [`laws`] it is one JSON object with distinct keys,
+//! and LF.
 //!
 //! ```rust
 //! let head = Head {
@@ -48,4 +50,4 @@ pub use seen::Seen;
 pub use wanted::is_wanted;
 
 /// The most bytes of an object with its LF.
-pub const OBJECT: usize = 4096;
+pub const OBJECT: usize = 8192;

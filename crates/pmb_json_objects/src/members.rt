@@ -4,22 +4,23 @@
 
 ghost use Rattle.std.specs.Prelude.{◌≡◌, ◌+◌, ◌*◌, ◌≤◌, ◌++◌, ◌∷◌, [], IsTrue, Some, codes, length, option_map};
 ghost use Rattle.std.specs.Option.{ForSome};
-ghost use Rattle.pmb_command.specs.Entry.{entry_parts};
+ghost use Rattle.pmb_keys.specs.CommandView.{command_parts};
 ghost use Rattle.pmb_json_text.specs.declared.item_order.ItemOrder.TheVariants.{First, Later};
 ghost use Rattle.pmb_json_text.specs.Member.{digits, is_key, members_text, named};
-ghost use Rattle.pmb_json_objects.specs.Members.{command_members, device_members, entry_members, head_members, name_at, name_members, page_member, part_members, sent_command, time_members};
+ghost use Rattle.pmb_json_objects.specs.Members.{command_members, device_members, entry_members, head_members, name_at, name_members, page_member, part_members, phase_member, selected_value, sent_command, time_members};
 ghost use Rattle.pmb_json_objects.specs.Head.{head_of};
-ghost use Rattle.pmb_json_objects.specs.Seen.{SeenData};
+ghost use Rattle.pmb_json_objects.specs.Seen.{SeenData, page_at, phase_at};
 ghost use Rattle.pmb_json_objects.specs.Sees.{Sees};
 
 use crate::head::{Head, TIME};
 use crate::seen::Seen;
 use arrayvec::ArrayVec;
-use pmb_command::Entry;
+use pmb_command_data::has_phases;
 use pmb_json_text::{
     ItemOrder, NULL_MEMBER, NUMBER_MEMBER, TEXT_MEMBER, begin, hex_member, null_member,
     number_member, text_member,
 };
+use pmb_keys::Command;
 use pmb_table::laws::accepted_device;
 use pmb_table::{DeviceProfile, Profile};
 
@@ -38,13 +39,13 @@ pub(crate) const DEVICE_MEMBERS: usize = BYTE_MEMBER + NAME_MEMBER;
 /// The most bytes of a device's name.
 const NAME_MEMBER: usize = TEXT_MEMBER + 6 * 32;
 
-/// The most bytes of a page.
-const PAGE_MEMBER: usize = NUMBER_MEMBER;
+/// The most bytes of a page or a phase.
+const SELECTED_MEMBER: usize = NUMBER_MEMBER;
 
-/// The most bytes of a command's name and its page.
-const ENTRY_MEMBERS: usize = TEXT_MEMBER + 6 * 32 + PAGE_MEMBER;
+/// The most bytes of a command's name, its page and its phase.
+const ENTRY_MEMBERS: usize = TEXT_MEMBER + 6 * 32 + 2 * SELECTED_MEMBER;
 
-/// The most bytes of a code, its command and the page.
+/// The most bytes of a code, its command, the page and the phase.
 pub(crate) const COMMAND_MEMBERS: usize = BYTE_MEMBER + ENTRY_MEMBERS;
 
 /// Begins an object: where its first event stands, the time of its packet, and its kind.
@@ -130,33 +131,65 @@ fn name_of(device: &DeviceProfile) -> Option<&[u8]>
     }
 }
 
-/// Appends the page of a paged command.
-fn append_page<const N: usize>(out: &mut ArrayVec<u8, N>, paged: bool, page: Option<u8>)
-    requires room { length out.old.items + PAGE_MEMBER ≤ N }
-    ensures members { out.new.items ≡ out.old.items ++ members_text Later (page_member paged page) }
-    ensures short { length out.new.items ≤ length out.old.items + PAGE_MEMBER }
+/// Appends the page or the phase that is selected.
+fn append_selected<const N: usize>(out: &mut ArrayVec<u8, N>, key: &str, selected: Option<u8>)
+    requires key { IsTrue (is_key key.now) }
+    requires room { length out.old.items + SELECTED_MEMBER ≤ N }
+    ensures member { out.new.items ≡ out.old.items ++ members_text Later (named key.now (selected_value selected) ∷ []) }
+    ensures short { length out.new.items ≤ length out.old.items + SELECTED_MEMBER }
 {
-    if !paged {
-        return;
-    }
-    match page {
-        None => null_member(out, ItemOrder::Later, "page"),
-        Some(0xff) => text_member(out, ItemOrder::Later, "page", b"all"),
-        Some(page) => number_member(out, ItemOrder::Later, "page", u64::from(page)),
+    match selected {
+        None => null_member(out, ItemOrder::Later, key),
+        Some(0xff) => text_member(out, ItemOrder::Later, key, b"all"),
+        Some(number) => number_member(out, ItemOrder::Later, key, u64::from(number)),
     }
 }
 
-/// Appends a command's name, and its page.
-fn append_entry<const N: usize>(out: &mut ArrayVec<u8, N>, page: Option<u8>, entry: &Entry)
+/// Appends the page of a paged command.
+fn append_page<const N: usize>(out: &mut ArrayVec<u8, N>, seen: &Seen<'_>, addr: u8, paged: bool)
+    requires room { length out.old.items + SELECTED_MEMBER ≤ N }
+    ensures members { (known : SeenData) → Sees seen.now known → out.new.items ≡ out.old.items ++ members_text Later (page_member paged (page_at known addr)) }
+    ensures short { length out.new.items ≤ length out.old.items + SELECTED_MEMBER }
+{
+    if paged {
+        append_selected(out, "page", seen.page(addr));
+    }
+}
+
+/// Appends the phase of a command that has phases.
+fn append_phase<const N: usize>(out: &mut ArrayVec<u8, N>, seen: &Seen<'_>, addr: u8, phased: bool)
+    requires room { length out.old.items + SELECTED_MEMBER ≤ N }
+    ensures members { (known : SeenData) → Sees seen.now known → out.new.items ≡ out.old.items ++ members_text Later (phase_member phased (phase_at known addr)) }
+    ensures short { length out.new.items ≤ length out.old.items + SELECTED_MEMBER }
+{
+    if phased {
+        append_selected(out, "phase", seen.phase(addr));
+    }
+}
+
+/// Appends the name of a device's command, its page and its phase.
+fn append_entry<const N: usize>(
+    out: &mut ArrayVec<u8, N>,
+    seen: &Seen<'_>,
+    addr: u8,
+    device: &DeviceProfile,
+    command: &Command,
+)
     requires room { length out.old.items + ENTRY_MEMBERS ≤ N }
-    ensures members { out.new.items ≡ out.old.items ++ members_text Later (entry_members page (Some (entry_parts entry.now))) }
+    ensures members { (known : SeenData) → Sees seen.now known → out.new.items ≡ out.old.items ++ members_text Later (entry_members (page_at known addr) (phase_at known addr) device.now (command_parts command.now)) }
     ensures short { length out.new.items ≤ length out.old.items + ENTRY_MEMBERS }
 {
-    text_member(out, ItemOrder::Later, "command", entry.name.as_bytes());
-    append_page(out, entry.paged, page);
+    text_member(
+        out,
+        ItemOrder::Later,
+        "command",
+        command.entry.name.as_bytes(),
+    );
+    append_page(out, seen, addr, command.entry.paged);
+    append_phase(out, seen, addr, has_phases(device, command));
 }
 
-/// Appends a command's code, and, where the device has that command, its name and page.
+/// Appends a command's code, and, where the device has that command, its name, page and phase.
 pub(crate) fn append_command<const N: usize>(
     out: &mut ArrayVec<u8, N>,
     seen: &Seen<'_>,
@@ -168,9 +201,13 @@ pub(crate) fn append_command<const N: usize>(
     ensures short { length out.new.items ≤ length out.old.items + COMMAND_MEMBERS }
 {
     append_byte(out, "code", code);
-    if let Some(entry) = seen.entry(addr, code) {
-        append_entry(out, seen.page(addr), entry);
-    }
+    let Some(device) = seen.device(addr) else {
+        return;
+    };
+    let Some(command) = device.command(code) else {
+        return;
+    };
+    append_entry(out, seen, addr, device, command);
 }
 
 /// Appends the command whose code comes first among bytes that were sent.

@@ -11,7 +11,7 @@ ghost use Rattle.pmb_json_objects.specs.Seen.{SeenData};
 ghost use Rattle.pmb_json_objects.specs.Sees.{Sees};
 
 use crate::OBJECT;
-use crate::data::append_data;
+use crate::data::{append_call, append_data};
 use crate::head::Head;
 use crate::members::{append_byte, append_command, append_device, append_part, begin_object};
 use crate::seen::Seen;
@@ -100,6 +100,7 @@ pub fn call_line<const N: usize>(
     hex_member(out, ItemOrder::Later, "sent", sent);
     hex_member(out, ItemOrder::Later, "reply", reply);
     bool_member(out, ItemOrder::Later, "pec", pec);
+    append_call(out, seen, addr, code, sent, reply);
     end(out);
 }
 

@@ -79,7 +79,7 @@ fn append_said_device<const N: usize>(
     }
 }
 
-/// Appends what was sent in the last leg that is written: code, command and page, and all bytes.
+/// Appends what was sent in the last leg that is written: code, command, page and phase, and all bytes.
 fn append_written<const N: usize>(out: &mut ArrayVec<u8, N>, seen: &Seen<'_>, said: &PartialPacket)
     requires room { length out.old.items + WRITTEN_MEMBERS ≤ N }
     ensures members { (known : SeenData) (profile : List DeviceParts) (front : List BusEvent) → Sees seen.now known → Viable profile front → SaidStandsAt said.now front

@@ -3,19 +3,19 @@
 //! Its rows: `tests_json`, `src/object_lines/seen.rt`; `tests/rows/json_objects.txt`.
 
 ghost use Rattle.std.specs.Prelude.{◌≡◌, option_map};
-ghost use Rattle.pmb_command.specs.Entry.{entry_parts};
 ghost use Rattle.pmb_command.specs.Parts.{device_with};
-ghost use Rattle.pmb_json_objects.specs.Seen.{SeenData, basis_at, entry_at, mode_at, page_at};
+ghost use Rattle.pmb_keys.specs.CommandView.{command_parts};
+ghost use Rattle.pmb_json_objects.specs.Seen.{SeenData, basis_at, command_at, mode_at, page_at, phase_at};
 ghost use Rattle.pmb_json_objects.specs.Sees.{Sees};
 
-use pmb_command::Entry;
 use pmb_decimal::Digits;
 use pmb_json_fields::Basis;
+use pmb_keys::Command;
 use pmb_table::{DeviceProfile, Profile};
 use pmb_unknown_start::{KnownMode, Late};
 
 /// What is known where a packet begins: the devices, and what the transactions before have told of
-/// PAGE and VOUT_MODE. Numbers get that many digits after the point.
+/// PAGE, PHASE and VOUT_MODE. Numbers get that many digits after the point.
 #[derive(Clone, Copy)]
 pub struct Seen<'s> {
     pub digits: Digits,
@@ -32,11 +32,11 @@ impl<'s> Seen<'s> {
     }
 
     /// The command with a code of the device with an address.
-    pub(crate) fn entry(&self, addr: u8, code: u8) -> Option<&Entry>
-        ensures { (known : SeenData) → Sees self.now known → option_map (λ e. entry_parts e.now) result ≡ entry_at known addr code }
+    pub(crate) fn command(&self, addr: u8, code: u8) -> Option<&Command>
+        ensures { (known : SeenData) → Sees self.now known → option_map (λ c. command_parts c.now) result ≡ command_at known addr code }
     {
         match self.profile.device(addr) {
-            Some(device) => device.entry(code),
+            Some(device) => device.command(code),
             None => None,
         }
     }
@@ -46,6 +46,13 @@ impl<'s> Seen<'s> {
         ensures { (known : SeenData) → Sees self.now known → result ≡ page_at known addr }
     {
         self.late.page(addr)
+    }
+
+    /// PHASE of the device with an address, where it is known.
+    pub(crate) fn phase(&self, addr: u8) -> Option<u8>
+        ensures { (known : SeenData) → Sees self.now known → result ≡ phase_at known addr }
+    {
+        self.late.phase(addr)
     }
 
     /// What is known of the VOUT_MODE that its output voltages are read by.

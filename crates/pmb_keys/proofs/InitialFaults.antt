@@ -119,3 +119,10 @@ pub passed : {X : Type 0} (Q : FaultKind → Type 0) (r : Result Unit FaultKind)
     → IfErr r (λ what. ◌≡◌ {A = Result X FaultKind} (Ok x) (Err what)) → IfErr r Q
 passed Q (Ok u) x told = tt
 passed Q (Err f) x told = cc
+
+-- a fault that a step tells, the steps around it tell too
+pub told_too : (X Y : Type 0) (r : Result Unit FaultKind) (fault : FaultKind)
+    → IfErr r (λ what. ◌≡◌ {A = Result X FaultKind} (Err fault) (Err what))
+    → IfErr r (λ what. ◌≡◌ {A = Result Y FaultKind} (Err fault) (Err what))
+told_too X Y (Ok u) fault told = tt
+told_too X Y (Err f) fault told = cc

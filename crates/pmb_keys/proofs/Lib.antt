@@ -1,3 +1,4 @@
 pub mod Arrays
 pub mod IgnoredFlags
 pub mod InitialFaults
+pub mod NamedBits

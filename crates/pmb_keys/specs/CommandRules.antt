@@ -11,7 +11,6 @@ use Rattle.pmb_coefficients.specs.Coefficients.{Coefficients}
 use Rattle.pmb_vid.specs.declared.table.VidTable.TheVariants.{Vr11, Vr12, Vr13, Imvp9, Amd625mv, Nvidia195mv}
 use Rattle.pmb_value.specs.declared.vout.VoutFormat.{VoutFormat}
 use Rattle.pmb_value.specs.declared.vout.VoutFormat.TheVariants.{Unsigned, Signed, Direct}
-use Rattle.pmb_value.specs.declared.number_format.NumberFormat.{NumberFormat}
 use Rattle.pmb_value.specs.declared.number_format.NumberFormat.TheVariants.{Linear11, Linear11Fixed, Word, Half, Vid}
 use Rattle.pmb_keys.specs.declared.fault.FaultKind.{FaultKind}
 use Rattle.pmb_keys.specs.declared.fault.FaultKind.TheVariants as faults
@@ -19,12 +18,13 @@ use Rattle.pmb_command.specs.declared.form.Form.{Form}
 use Rattle.pmb_command.specs.declared.form.Form.TheVariants.{Zero, One, Two, Four, Eight, Block}
 use Rattle.pmb_command.specs.declared.form.Shape.{Shape}
 use Rattle.pmb_command.specs.declared.entry.Kind.{Kind}
-use Rattle.pmb_command.specs.declared.entry.Kind.TheVariants.{Raw, Number, Vout, VoutSigned, Status}
+use Rattle.pmb_command.specs.declared.entry.Kind.TheVariants.{Raw, Number, Vout, VoutSigned, Status, Text}
 use Rattle.pmb_command.specs.Entry.{EntryParts}
 use Rattle.pmb_command.specs.Commands.{standard_entry, code_of_name}
 use Rattle.pmb_command.specs.Parts.{CommandParts, InitialParts, Same, Each}
 use Rattle.pmb_command.specs.Names.{code_name, is_name}
 use Rattle.pmb_command.specs.Fitting.{register_form, is_length, is_fitting}
+use Rattle.pmb_keys.specs.FurtherKeys.{FurtherKeys, further_keys}
 use Rattle.pmb_keys.specs.Rules.{bind, or_fault, unless, named, natural_within, only, typed, required, optional}
 use Rattle.pmb_keys.specs.Rules.{defaulted, each_of, item_count}
 
@@ -33,7 +33,7 @@ abbrev pub command_key_names : List (List ℕ)
 command_key_names =
     codes "code" ∷ codes "name" ∷ codes "write" ∷ codes "read" ∷ codes "call" ∷ codes "kind" ∷ codes "m" ∷ codes "b"
     ∷ codes "r"
-    ∷ codes "exponent" ∷ codes "paged" ∷ codes "initial" ∷ codes "unsigned" ∷ []
+    ∷ codes "exponent" ∷ codes "paged" ∷ codes "initial" ∷ codes "unsigned" ∷ codes "unit" ∷ codes "bits" ∷ codes "phased" ∷ []
 
 -- the words for the forms in which a command is written, read and called
 abbrev pub write_forms : List (List ℕ × Option Form)
@@ -166,6 +166,7 @@ kind_words =
     ∷ (codes "vid:imvp9", plain_kind (Number (Vid Imvp9)))
     ∷ (codes "vid:amd625mv", plain_kind (Number (Vid Amd625mv)))
     ∷ (codes "vid:nvidia195mv", plain_kind (Number (Vid Nvidia195mv)))
+    ∷ (codes "text", plain_kind Text)
     ∷ []
 
 -- the kind, where that of the base stays without a key, and then its coefficients
@@ -184,6 +185,7 @@ is_linear11 (Number (Vid table)) = false
 is_linear11 Vout = false
 is_linear11 VoutSigned = false
 is_linear11 Status = false
+is_linear11 Text = false
 
 -- .. or in ULINEAR16 or SLINEAR16, whose exponent was read together with the kind
 abbrev pub has_exponent : Kind → Bool
@@ -198,6 +200,7 @@ has_exponent (Number (Vid table)) = false
 has_exponent Vout = false
 has_exponent VoutSigned = false
 has_exponent Status = false
+has_exponent Text = false
 
 -- the exponent that a key fixes for LINEAR11; its type is looked at first, then that it goes with LINEAR11
 -- alone
@@ -233,6 +236,7 @@ kind_of_words unsigned (Number (Vid table)) = Err faults.UnknownKey
 kind_of_words unsigned Vout = Err faults.UnknownKey
 kind_of_words unsigned VoutSigned = Err faults.UnknownKey
 kind_of_words unsigned Status = Err faults.UnknownKey
+kind_of_words unsigned Text = Err faults.UnknownKey
 
 -- whether words count as they stand, by a key; its type is looked at first, then that it goes with DIRECT
 -- alone
@@ -311,6 +315,16 @@ abbrev pub initial_of : EntryParts → ℕ → Option Data → Result (Option In
 initial_of e pages None = Ok None
 initial_of e pages (Some d) = bind (initial_rule e pages d (as_array d)) (λ initial. Ok (Some initial))
 
+-- a command of what its keys say
+abbrev pub command_from : EntryParts → FurtherKeys → Option InitialParts → CommandParts
+command_from entry further initial = record {
+  entry = entry;
+  initial = initial;
+  unit = further.unit;
+  bits = further.bits;
+  phased = further.phased;
+}
+
 -- A command of a device with so many pages, in which earlier tables have these codes: the keys, then
 -- CodeTwice, then BadForm, then BadInitial.
 abbrev pub command_of : ℕ → List ℕ → Data → Result CommandParts FaultKind
@@ -319,10 +333,11 @@ command_of pages taken d =
     bind (entry_rule ms) (λ worded.
     bind (initial_value ms) (λ value.
     bind (unsigned_rule worded ms) (λ entry.
+    bind (further_keys entry ms) (λ further.
     bind (unless faults.CodeTwice (not (list_any (nat_eq entry.code) taken))) (λ _.
     bind (unless faults.BadForm (is_fitting entry)) (λ _.
     bind (initial_of entry pages value) (λ initial.
-    Ok (record { entry = entry; initial = initial }))))))))
+    Ok (command_from entry further initial)))))))))
 
 -- What of `initial` is refused without memory: a string for a command that says nothing of a register, or
 -- of an odd number of digits, and an array for a command without a value for each page, or with another
@@ -346,6 +361,7 @@ command_check pages taken d =
     bind (entry_rule ms) (λ worded.
     bind (initial_value ms) (λ value.
     bind (unsigned_rule worded ms) (λ entry.
+    bind (further_keys entry ms) (λ further.
     bind (unless faults.CodeTwice (not (list_any (nat_eq entry.code) taken))) (λ _.
     bind (unless faults.BadForm (is_fitting entry)) (λ _.
-    initial_check entry pages value))))))
+    initial_check entry pages value)))))))

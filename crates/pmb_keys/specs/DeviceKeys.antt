@@ -20,7 +20,7 @@ abbrev pub device_key_names : List (List ℕ)
 device_key_names =
     codes "address" ∷ codes "pec" ∷ codes "pages" ∷ codes "vout_mode" ∷ codes "standard" ∷ codes "vout_direct"
     ∷ codes "command"
-    ∷ codes "name" ∷ codes "vid" ∷ []
+    ∷ codes "name" ∷ codes "vid" ∷ codes "phases" ∷ []
 
 -- 08h to 77h without 0ch (SMBus 3.0 appendix C: the others are reserved, and 0ch is the Alert
 -- Response Address), no earlier device's, and none of those that are ignored
@@ -55,6 +55,10 @@ modes_rule pages d = modes_of pages d (as_array d)
 abbrev pub name_rule : Data → Result (List ℕ) FaultKind
 name_rule d = bind (typed as_str d) (λ text. bind (unless faults.BadName (is_device_name text)) (λ _. Ok text))
 
+-- a number of phases
+abbrev pub phases_rule : Data → Result ℕ FaultKind
+phases_rule d = bind (typed as_integer d) (λ z. or_fault faults.BadValue (natural_within 1 255 z))
+
 -- the table of `vout_direct`
 abbrev pub coefficients_rule : Data → Result Coefficients FaultKind
 coefficients_rule d =
@@ -75,6 +79,7 @@ pub record DeviceKeys : Type 0 where
   pub commands : Items
   pub name : Option (List ℕ)
   pub vid : Option VidParts
+  pub phases : Option ℕ
 
 -- the keys that may be there, each ruled in its turn, after those that have to be
 abbrev pub other_keys : ℕ → PecMode → Members → Result DeviceKeys FaultKind
@@ -86,6 +91,7 @@ other_keys address pec ms =
     bind (defaulted (typed as_array) no_items (codes "command") ms) (λ commands.
     bind (optional name_rule (codes "name") ms) (λ name.
     bind (optional (vid_rule pages) (codes "vid") ms) (λ vid.
+    bind (optional phases_rule (codes "phases") ms) (λ phases.
     Ok (record {
       address = address;
       pec = pec;
@@ -96,7 +102,8 @@ other_keys address pec ms =
       commands = commands;
       name = name;
       vid = vid;
-    }))))))))
+      phases = phases;
+    })))))))))
 
 -- each key ruled in its turn, where earlier devices have the addresses `taken`, and those in `ignored`
 -- are none of devices

@@ -16,4 +16,5 @@ keys_parts k = record {
   commands = items_view k.commands.now;
   name = option_map (λ name. name.bytes) k.name;
   vid = option_map vid_parts k.vid;
+  phases = k.phases;
 }

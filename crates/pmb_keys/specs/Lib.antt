@@ -3,6 +3,7 @@ pub mod CommandRules
 pub mod CommandView
 pub mod DeviceKeys
 pub mod DeviceKeysView
+pub mod FurtherKeys
 pub mod IgnoreRule
 pub mod VidRule
 pub mod VidView

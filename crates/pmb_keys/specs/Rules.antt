@@ -1,6 +1,6 @@
 -- How the keys of a TOML table are ruled.
 use Rattle.std.specs.Prelude.{ℕ, suc, ℤ, pos, negsuc, Bool, true, false, if◌then◌else◌, ◌&&◌, Option, Some, None}
-use Rattle.std.specs.Prelude.{Result, Ok, Err, List, [], ◌∷◌, nat_le}
+use Rattle.std.specs.Prelude.{Result, Ok, Err, List, [], ◌∷◌, codes, nat_le}
 use Rattle.std.specs.Str.{bytes_eq}
 use Rattle.std.specs.List.{list_any, list_all}
 use Rattle.toml.specs.Data.{Data, Items, no_items, item, Members, no_members, member, get_member}
@@ -36,6 +36,14 @@ natural_within least most (negsuc n) = None
 abbrev pub keys_of : Members → List (List ℕ)
 keys_of no_members = []
 keys_of (member k d ms) = k ∷ keys_of ms
+
+-- the numbers from 0 to 31, as keys of a table name them: in decimal, without leading zeros
+abbrev pub decimals : List (List ℕ)
+decimals =
+    codes "0" ∷ codes "1" ∷ codes "2" ∷ codes "3" ∷ codes "4" ∷ codes "5" ∷ codes "6" ∷ codes "7"
+    ∷ codes "8" ∷ codes "9" ∷ codes "10" ∷ codes "11" ∷ codes "12" ∷ codes "13" ∷ codes "14" ∷ codes "15"
+    ∷ codes "16" ∷ codes "17" ∷ codes "18" ∷ codes "19" ∷ codes "20" ∷ codes "21" ∷ codes "22" ∷ codes "23"
+    ∷ codes "24" ∷ codes "25" ∷ codes "26" ∷ codes "27" ∷ codes "28" ∷ codes "29" ∷ codes "30" ∷ codes "31" ∷ []
 
 -- UnknownKey where a table has another key than these
 abbrev pub only : List (List ℕ) → Members → Result Unit FaultKind

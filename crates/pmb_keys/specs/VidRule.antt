@@ -1,5 +1,5 @@
 -- What a profile says of the VID tables of a device.
-use Rattle.std.specs.Prelude.{ℕ, Option, Some, None, Result, Ok, List, [], ◌∷◌, codes, nat_eq, replicate}
+use Rattle.std.specs.Prelude.{ℕ, Option, Some, None, Result, Ok, List, [], ◌∷◌, nat_eq, replicate}
 use Rattle.std.specs.List.{list_all, list_any}
 use Rattle.std.specs.Str.{bytes_eq}
 use Rattle.toml.specs.Data.{Data, Items, Members, as_array, as_str, as_table}
@@ -8,7 +8,7 @@ use Rattle.pmb_vid.specs.declared.table.VidTable.{VidTable}
 use Rattle.pmb_command.specs.Parts.{VidParts, OfPages, OfTypes}
 use Rattle.pmb_keys.specs.declared.fault.FaultKind.{FaultKind}
 use Rattle.pmb_keys.specs.declared.fault.FaultKind.TheVariants as faults
-use Rattle.pmb_keys.specs.Rules.{bind, each_of, item_count, keys_of, optional, or_fault, typed, unless}
+use Rattle.pmb_keys.specs.Rules.{bind, decimals, each_of, item_count, keys_of, optional, or_fault, typed, unless}
 
 -- the table that a text names
 abbrev pub table_rule : Data → Result VidTable FaultKind
@@ -21,25 +21,17 @@ tables_for pages items =
     bind (unless faults.BadValue (nat_eq (item_count items) pages)) (λ _.
     Ok tables))
 
--- the 32 types of VID, in decimal
-abbrev pub type_names : List (List ℕ)
-type_names =
-    codes "0" ∷ codes "1" ∷ codes "2" ∷ codes "3" ∷ codes "4" ∷ codes "5" ∷ codes "6" ∷ codes "7"
-    ∷ codes "8" ∷ codes "9" ∷ codes "10" ∷ codes "11" ∷ codes "12" ∷ codes "13" ∷ codes "14" ∷ codes "15"
-    ∷ codes "16" ∷ codes "17" ∷ codes "18" ∷ codes "19" ∷ codes "20" ∷ codes "21" ∷ codes "22" ∷ codes "23"
-    ∷ codes "24" ∷ codes "25" ∷ codes "26" ∷ codes "27" ∷ codes "28" ∷ codes "29" ∷ codes "30" ∷ codes "31" ∷ []
-
 -- the table of each type with these names, where there is one
 abbrev pub types_from : List (List ℕ) → Members → Result (List (Option VidTable)) FaultKind
 types_from [] ms = Ok []
 types_from (name ∷ names) ms =
     bind (optional table_rule name ms) (λ table. bind (types_from names ms) (λ tables. Ok (table ∷ tables)))
 
--- tables by their types, and no other keys
+-- tables by the 32 types, and no other keys
 abbrev pub types_rule : Members → Result (List (Option VidTable)) FaultKind
 types_rule ms =
-    bind (unless faults.BadValue (list_all (λ key. list_any (bytes_eq key) type_names) (keys_of ms)))
-    (λ _. types_from type_names ms)
+    bind (unless faults.BadValue (list_all (λ key. list_any (bytes_eq key) decimals) (keys_of ms)))
+    (λ _. types_from decimals ms)
 
 -- by a value that may be an array or a table: an item for each page, a table for each type, or one table
 -- for all pages

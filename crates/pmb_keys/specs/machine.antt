@@ -1,4 +1,5 @@
 -- What the code's own types stand for.
+pub mod FurtherView
 pub mod Ignored
 pub mod KindWords
 pub mod Typed

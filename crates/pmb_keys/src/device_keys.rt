@@ -11,7 +11,7 @@ ghost use Rattle.toml.specs.Data.{no_items, as_bool, as_array, as_table};
 ghost use Rattle.toml.specs.View.{view, items_view, table_view};
 ghost use Rattle.pmb_keys.specs.Rules.{bind, named, typed, required, optional, defaulted};
 ghost use Rattle.pmb_keys.specs.CommandRules.{word_rule};
-ghost use Rattle.pmb_keys.specs.DeviceKeys.{address_rule, pec_words, pages_rule, coefficients_rule, device_keys, other_keys};
+ghost use Rattle.pmb_keys.specs.DeviceKeys.{address_rule, pec_words, pages_rule, phases_rule, coefficients_rule, device_keys, other_keys};
 ghost use Rattle.pmb_keys.specs.DeviceKeysView.{keys_parts};
 ghost use Rattle.pmb_keys.specs.VidView.{vid_parts};
 
@@ -45,6 +45,8 @@ pub struct DeviceKeys<'a> {
     pub name: Option<Name>,
     /// The VID tables of its output voltages.
     pub vid: Option<VidTables>,
+    /// How many phases it has, 1 to 255, where it says.
+    pub phases: Option<u8>,
 }
 
 /// The keys of a value's table, where earlier devices have the addresses `taken`, and no device has one
@@ -62,6 +64,7 @@ pub fn read_device_keys<'a>(
     ensures mode_of_each { IfOk result (λ k. length k.modes.items ≡ k.pages) }
     ensures name { IfOk result (λ k. IfSome (option_map (λ n. n.bytes) k.name) IsDeviceName) }
     ensures tables { IfOk result (λ k. HasTableForEach k.pages (option_map vid_parts k.vid)) }
+    ensures phases { IfOk result (λ k. IfSome k.phases (λ n. (1 ≤ n) × (n ≤ 255))) }
 {
     device_keys(rules::table_of(value)?, taken, ignored)
 }
@@ -80,6 +83,7 @@ fn device_keys<'a>(
     ensures mode_of_each { IfOk result (λ k. length k.modes.items ≡ k.pages) }
     ensures name { IfOk result (λ k. IfSome (option_map (λ n. n.bytes) k.name) IsDeviceName) }
     ensures tables { IfOk result (λ k. HasTableForEach k.pages (option_map vid_parts k.vid)) }
+    ensures phases { IfOk result (λ k. IfSome k.phases (λ n. (1 ≤ n) × (n ≤ 255))) }
 {
     let known = [
         "address",
@@ -91,6 +95,7 @@ fn device_keys<'a>(
         "command",
         "name",
         "vid",
+        "phases",
     ];
     rules::only(table, &known)?;
     let address = address(table, taken, ignored)?;
@@ -107,6 +112,7 @@ fn other_keys(table: &Table, address: u8, pec: PecMode) -> Result<DeviceKeys<'_>
     ensures mode_of_each { IfOk result (λ k. length k.modes.items ≡ k.pages) }
     ensures name { IfOk result (λ k. IfSome (option_map (λ n. n.bytes) k.name) IsDeviceName) }
     ensures tables { IfOk result (λ k. HasTableForEach k.pages (option_map vid_parts k.vid)) }
+    ensures phases { IfOk result (λ k. IfSome k.phases (λ n. (1 ≤ n) × (n ≤ 255))) }
 {
     let pages = pages(table)?;
     let modes = read_modes(table, pages)?;
@@ -115,6 +121,7 @@ fn other_keys(table: &Table, address: u8, pec: PecMode) -> Result<DeviceKeys<'_>
     let commands = commands(table)?;
     let name = read_name(table)?;
     let vid = read_vid(table, pages)?;
+    let phases = phases(table)?;
     Ok(DeviceKeys {
         address,
         pec,
@@ -125,6 +132,7 @@ fn other_keys(table: &Table, address: u8, pec: PecMode) -> Result<DeviceKeys<'_>
         commands,
         name,
         vid,
+        phases,
     })
 }
 
@@ -222,6 +230,28 @@ fn pages_rule(value: &Value) -> Result<u8, FaultKind>
     match rules::natural_within(1, 32, rules::integer_of(value)?) {
         Some(pages) => Ok(pages),
         None => Err(FaultKind::BadPages),
+    }
+}
+
+/// A number of phases: 1 to 255, or BadValue.
+fn phases_rule(value: &Value) -> Result<u8, FaultKind>
+    ensures read { result ≡ phases_rule (view value.now) }
+    ensures within { IfOk result (λ n. (1 ≤ n) × (n ≤ 255)) }
+{
+    match rules::natural_within(1, 255, rules::integer_of(value)?) {
+        Some(phases) => Ok(phases),
+        None => Err(FaultKind::BadValue),
+    }
+}
+
+/// The number of phases, where the device says one.
+fn phases(table: &Table) -> Result<Option<u8>, FaultKind>
+    ensures read { result ≡ optional phases_rule (codes "phases") (table_view table.now) }
+    ensures within { IfOk result (λ p. IfSome p (λ n. (1 ≤ n) × (n ≤ 255))) }
+{
+    match rules::find(table, "phases") {
+        Some(value) => Ok(Some(phases_rule(value)?)),
+        None => Ok(None),
     }
 }
 

@@ -13,12 +13,14 @@
 #![tactic(auto)]
 
 mod base;
+mod bits_key;
 mod command;
 mod command_keys;
 mod device_keys;
 mod device_name;
 mod exponent_key;
 mod fault;
+mod further_keys;
 mod ignored;
 mod initial;
 mod initial_items;
@@ -26,11 +28,12 @@ mod kind_keys;
 mod modes;
 mod rules;
 mod shape_keys;
+mod unit_key;
 mod unsigned_key;
 mod vid;
 mod words;
 
-pub use command::{Command, Initial};
+pub use command::{Command, Initial, NamedBit};
 pub use command_keys::read_command;
 pub use device_keys::{DeviceKeys, read_device_keys};
 pub use fault::FaultKind;

@@ -14,6 +14,12 @@ use crate::fault::FaultKind;
 use pmb_coefficients::Direct;
 use toml::{Table, Value};
 
+/// The numbers from 0 to 31, as keys of a table name them.
+pub(crate) static DECIMALS: [&str; 32] = [
+    "0", "1", "2", "3", "4", "5", "6", "7", "8", "9", "10", "11", "12", "13", "14", "15", "16",
+    "17", "18", "19", "20", "21", "22", "23", "24", "25", "26", "27", "28", "29", "30", "31",
+];
+
 /// The number that a value is, or WrongType.
 pub(crate) fn integer_of(value: &Value) -> Result<i64, FaultKind>
     ensures { result ≡ typed as_integer (view value.now) }

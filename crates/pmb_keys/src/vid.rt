@@ -11,7 +11,7 @@ ghost use Rattle.pmb_keys.specs.VidRule.{table_rule, tables_for, types_from, typ
 ghost use Rattle.pmb_keys.specs.VidView.{vid_parts};
 
 use crate::fault::FaultKind;
-use crate::rules::{find, has_only, text_of};
+use crate::rules::{DECIMALS, find, has_only, text_of};
 use arrayvec::ArrayVec;
 use pmb_value::VidTable;
 use toml::{Table, Value};
@@ -24,12 +24,6 @@ pub enum VidTables {
     /// One for each type that bits 4:0 of VOUT_MODE name, from type 0 on, where it has one.
     OfTypes(ArrayVec<Option<VidTable>, 32>),
 }
-
-/// The types of VID, as keys of a table name them.
-const TYPES: [&str; 32] = [
-    "0", "1", "2", "3", "4", "5", "6", "7", "8", "9", "10", "11", "12", "13", "14", "15", "16",
-    "17", "18", "19", "20", "21", "22", "23", "24", "25", "26", "27", "28", "29", "30", "31",
-];
 
 /// The VID table that a value names, or BadValue.
 fn table_rule(value: &Value) -> Result<VidTable, FaultKind>
@@ -120,10 +114,10 @@ fn each_type(table: &Table) -> Result<ArrayVec<Option<VidTable>, 32>, FaultKind>
     ensures read { bind result (λ tables. Ok tables.items) ≡ types_rule (table_view table.now) }
     ensures count { IfOk result (λ tables. length tables.items ≡ 32) }
 {
-    if !has_only(table, &TYPES) {
+    if !has_only(table, &DECIMALS) {
         return Err(FaultKind::BadValue);
     }
-    types_from(table, &TYPES)
+    types_from(table, &DECIMALS)
 }
 
 /// The tables that a value names: a table for all pages, an array with one for each, or a table of

@@ -89,6 +89,7 @@ pub(crate) fn kind_word(text: &str) -> Option<KindWord>
         "vid:imvp9" => Some(vid_word(VidTable::Imvp9)),
         "vid:amd625mv" => Some(vid_word(VidTable::Amd625mv)),
         "vid:nvidia195mv" => Some(vid_word(VidTable::Nvidia195mv)),
+        "text" => Some(KindWord::Plain(Kind::Text)),
         _ => None,
     }
 }

@@ -3,6 +3,7 @@
 use Rattle.std.proofs.Common.{◌≡◌, ℕ, ◌+◌, ◌*◌, List, [], ◌∷◌, ◌++◌, length, get_or, refl, sym, ap}
 use Rattle.std.proofs.Common.{◌∙◌, append_assoc}
 use Rattle.std.proofs.Common.{arith}
+use Rattle.pmb_command.specs.Parts.{CommandParts}
 use Rattle.pmb_json_fields.specs.Value.{set_bits}
 use Rattle.pmb_json_text.specs.declared.item_order.ItemOrder.{ItemOrder}
 use Rattle.pmb_json_text.specs.declared.item_order.ItemOrder.TheVariants.{Later}
@@ -39,9 +40,9 @@ then_joined sep place xs ys {next} is first second =
     called (sym (joined_in_parts sep place xs ys)) (then first (called (ap (λ p. joined sep p ys) is) second))
 
 -- two bytes are a register
-pub two_bytes : (code word : ℕ) (bytes : List ℕ) → length bytes ≡ 2 → word ≡ get_or bytes 0 0 + 256 * get_or bytes 1 0
-    → bits_says (set_bits code word 16) ≡ status_says code bytes
-two_bytes code word [] two is = absurd (omega (arith, two))
-two_bytes code word (a ∷ []) two is = absurd (omega (arith, two))
-two_bytes code word (low ∷ high ∷ []) two is = ap (λ (value : ℕ). bits_says (set_bits code value 16)) is
-two_bytes code word (a ∷ b ∷ c ∷ bytes) two is = absurd (omega (arith, two))
+pub two_bytes : (c : CommandParts) (word : ℕ) (bytes : List ℕ) → length bytes ≡ 2
+    → word ≡ get_or bytes 0 0 + 256 * get_or bytes 1 0 → bits_says (set_bits c word 16) ≡ status_says c bytes
+two_bytes c word [] two is = absurd (omega (arith, two))
+two_bytes c word (a ∷ []) two is = absurd (omega (arith, two))
+two_bytes c word (low ∷ high ∷ []) two is = ap (λ (value : ℕ). bits_says (set_bits c value 16)) is
+two_bytes c word (a ∷ b ∷ d ∷ bytes) two is = absurd (omega (arith, two))

@@ -4,17 +4,21 @@ use Rattle.std.specs.Prelude.{Ok, Err}
 use Rattle.std.specs.Prelude.{List, [], ◌∷◌, ◌++◌, codes}
 use Rattle.pmb_quantity.specs.Fraction.{Fraction}
 use Rattle.pmb_command.specs.declared.entry.Kind.{Kind}
-use Rattle.pmb_command.specs.declared.entry.Kind.TheVariants.{Raw, Number, Vout, VoutSigned, Status}
-use Rattle.pmb_command.specs.Entry.{EntryParts}
-use Rattle.pmb_command.specs.Parts.{DeviceParts, device_with}
+use Rattle.pmb_command.specs.declared.entry.Kind.TheVariants.{Raw, Number, Vout, VoutSigned, Status, Text}
+use Rattle.pmb_command.specs.Parts.{CommandParts, DeviceParts, command_with, device_with}
+use Rattle.pmb_command_data.specs.Text.{text_of}
 use Rattle.pmb_decimal.specs.Decimal.{rounded_text}
+use Rattle.pmb_json_fields.specs.declared.access.Access.{Access}
 use Rattle.pmb_json_fields.specs.declared.basis.Basis.{Basis}
 use Rattle.pmb_json_fields.specs.declared.basis.Basis.TheVariants.{Told, Assumed}
-use Rattle.pmb_json_fields.specs.Value.{set_bits}
+use Rattle.pmb_json_fields.specs.Value.{form_of, set_bits}
 use Rattle.pmb_json_text.specs.declared.item_order.ItemOrder.TheVariants.{First}
-use Rattle.pmb_json_objects.specs.Seen.{SeenData, basis_at, entry_of, mode_at, page_at}
+use Rattle.pmb_json_text.specs.Spelling.{quoted}
+use Rattle.pmb_json_objects.specs.Packets.{exchange_of}
+use Rattle.pmb_json_objects.specs.Seen.{SeenData, basis_at, command_at, mode_at, page_at}
+use Rattle.pmb_meaning.specs.Data.{Exchange, called}
+use Rattle.pmb_meaning.specs.Words.{says_words_of}
 use Rattle.pmb_note.specs.Paging.{all_pages}
-use Rattle.pmb_units.specs.Units.{unit_of}
 use Rattle.pmb_unknown_start.specs.declared.mode.KnownMode.{KnownMode}
 use Rattle.pmb_unknown_start.specs.declared.mode.KnownMode.TheVariants.{Known, NoPage}
 use Rattle.pmb_unknown_start.specs.declared.mode.KnownMode.TheVariants as modes
@@ -126,37 +130,73 @@ abbrev pub bits_says : List (List ℕ) → List ℕ
 bits_says names = joined (codes " ") First names ++ no_bits names
 
 -- a register of one byte, or of two, the low one first; another number of bytes as they are
-abbrev pub status_says : ℕ → List ℕ → List ℕ
-status_says code [] = bytes_says []
-status_says code (byte ∷ []) = bits_says (set_bits code byte 8)
-status_says code (low ∷ high ∷ []) = bits_says (set_bits code (low + 256 * high) 16)
-status_says code (a ∷ b ∷ c ∷ bytes) = bytes_says (a ∷ b ∷ c ∷ bytes)
+abbrev pub status_says : CommandParts → List ℕ → List ℕ
+status_says c [] = bytes_says []
+status_says c (byte ∷ []) = bits_says (set_bits c byte 8)
+status_says c (low ∷ high ∷ []) = bits_says (set_bits c (low + 256 * high) 16)
+status_says c (a ∷ b ∷ d ∷ bytes) = bytes_says (a ∷ b ∷ d ∷ bytes)
 
--- ---- by the command's kind
+-- ---- texts
+
+-- data that are a text are written as in JSON, between double quotes; others in another way
+abbrev pub text_or : Option (List ℕ) → List ℕ → List ℕ
+text_or None other = other
+text_or (Some text) other = quoted text
+
+-- ---- what the standard makes of the bytes
+
+-- words after the data, where there are some
+abbrev pub in_brackets : List ℕ → List ℕ
+in_brackets [] = []
+in_brackets (c ∷ words) = codes " (" ++ (c ∷ words) ++ codes ")"
+
+-- by a device, its command and how the data go
+abbrev pub meaning_says : DeviceParts → CommandParts → Exchange → List ℕ
+meaning_says device c exchange = in_brackets (says_words_of device c.entry exchange)
+
+-- of a call; nothing where there is no such device or command
+abbrev pub call_meaning_of : Option DeviceParts → Option CommandParts → List ℕ → List ℕ → List ℕ
+call_meaning_of None command bytes reply = []
+call_meaning_of (Some device) None bytes reply = []
+call_meaning_of (Some device) (Some c) bytes reply = meaning_says device c (called bytes reply)
+
+abbrev pub call_meaning : SeenData → ℕ → ℕ → List ℕ → List ℕ → List ℕ
+call_meaning seen addr code bytes reply =
+    call_meaning_of (device_with addr seen.profile) (command_at seen addr code) bytes reply
+
+-- ---- data of a command
 
 module _ (seen : SeenData) (addr : ℕ) where
   -- an output voltage of a device, unsigned or signed
-  abbrev pub voltage_says : DeviceParts → Option (List ℕ) → ℕ → Sign → List ℕ → List ℕ
-  voltage_says device unit code sign bytes = of_word
-      (vout_says seen.digits unit bytes (voltages_of device (mode_at seen addr) (page_at seen addr))
-      (basis_at seen addr) code sign) bytes
+  abbrev pub voltage_says : DeviceParts → CommandParts → Sign → List ℕ → List ℕ
+  voltage_says device c sign bytes = of_word
+      (vout_says seen.digits c.unit bytes (voltages_of device (mode_at seen addr) (page_at seen addr))
+      (basis_at seen addr) c.entry.code sign) bytes
 
-  abbrev pub kind_says : DeviceParts → Option (List ℕ) → ℕ → Kind → List ℕ → List ℕ
-  kind_says device unit code Raw bytes = bytes_says bytes
-  kind_says device unit code (Number format) bytes = of_word (number_says seen.digits unit bytes format) bytes
-  kind_says device unit code Vout bytes = voltage_says device unit code Unsigned bytes
-  kind_says device unit code VoutSigned bytes = voltage_says device unit code Signed bytes
-  kind_says device unit code Status bytes = status_says code bytes
+  -- by the command's kind
+  abbrev pub kind_says : DeviceParts → CommandParts → Kind → List ℕ → List ℕ
+  kind_says device c Raw bytes = bytes_says bytes
+  kind_says device c (Number format) bytes = of_word (number_says seen.digits c.unit bytes format) bytes
+  kind_says device c Vout bytes = voltage_says device c Unsigned bytes
+  kind_says device c VoutSigned bytes = voltage_says device c Signed bytes
+  kind_says device c Status bytes = status_says c bytes
+  kind_says device c Text bytes = bytes_says bytes
 
-  -- data of a command that the device has, else bytes
-  abbrev pub entry_says : ℕ → DeviceParts → Option EntryParts → List ℕ → List ℕ
-  entry_says code device None bytes = bytes_says bytes
-  entry_says code device (Some entry) bytes = kind_says device (unit_of entry) code entry.kind bytes
+  -- .. or as a text, and what they mean
+  abbrev pub command_says : Access → DeviceParts → CommandParts → List ℕ → List ℕ
+  command_says access device c bytes =
+      text_or (text_of c.entry (form_of access c.entry.shape) bytes) (kind_says device c c.entry.kind bytes)
+      ++ meaning_says device c (exchange_of access bytes)
 
-  abbrev pub device_says : ℕ → Option DeviceParts → List ℕ → List ℕ
-  device_says code None bytes = bytes_says bytes
-  device_says code (Some device) bytes = entry_says code device (entry_of (Some device) code) bytes
+  -- the bytes alone where the device lacks the command
+  abbrev pub entry_says : Access → DeviceParts → Option CommandParts → List ℕ → List ℕ
+  entry_says access device None bytes = bytes_says bytes
+  entry_says access device (Some c) bytes = command_says access device c bytes
+
+  abbrev pub device_says : Access → ℕ → Option DeviceParts → List ℕ → List ℕ
+  device_says access code None bytes = bytes_says bytes
+  device_says access code (Some device) bytes = entry_says access device (command_with code device.commands) bytes
 
 -- what is said of what is read from a device, or written to it
-abbrev pub data_says : SeenData → ℕ → ℕ → List ℕ → List ℕ
-data_says seen addr code bytes = device_says seen addr code (device_with addr seen.profile) bytes
+abbrev pub data_says : SeenData → Access → ℕ → ℕ → List ℕ → List ℕ
+data_says seen access addr code bytes = device_says seen addr access code (device_with addr seen.profile) bytes

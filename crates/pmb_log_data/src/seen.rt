@@ -5,13 +5,15 @@
 ghost use Rattle.std.specs.Prelude.{◌≡◌, ◌≤◌, length, option_map};
 ghost use Rattle.pmb_command.specs.Entry.{entry_parts};
 ghost use Rattle.pmb_command.specs.Parts.{device_with};
-ghost use Rattle.pmb_json_objects.specs.Seen.{SeenData, basis_at, entry_at, mode_at, page_at};
+ghost use Rattle.pmb_json_objects.specs.Seen.{SeenData, basis_at, command_at, entry_at, mode_at, page_at, phase_at};
 ghost use Rattle.pmb_json_objects.specs.Sees.{Sees};
+ghost use Rattle.pmb_keys.specs.CommandView.{command_parts};
 ghost use Rattle.pmb_log_data.specs.Text.{or_nothing};
 
 use pmb_command::Entry;
 use pmb_json_fields::Basis;
 use pmb_json_objects::Seen;
+use pmb_keys::Command;
 use pmb_table::DeviceProfile;
 use pmb_table::laws::accepted_device;
 use pmb_unknown_start::KnownMode;
@@ -33,11 +35,28 @@ pub fn entry<'s>(seen: &'s Seen<'_>, addr: u8, code: u8) -> Option<&'s Entry>
     }
 }
 
+/// What the profile says of that command.
+pub fn command<'s>(seen: &'s Seen<'_>, addr: u8, code: u8) -> Option<&'s Command>
+    ensures { (known : SeenData) → Sees seen.now known → option_map (λ c. command_parts c.now) result ≡ command_at known addr code }
+{
+    match seen.profile.device(addr) {
+        Some(device) => device.command(code),
+        None => None,
+    }
+}
+
 /// PAGE of the device with an address, where it is known.
 pub fn page(seen: &Seen<'_>, addr: u8) -> Option<u8>
     ensures { (known : SeenData) → Sees seen.now known → result ≡ page_at known addr }
 {
     seen.late.page(addr)
+}
+
+/// PHASE of the device with an address, where it is known.
+pub fn phase(seen: &Seen<'_>, addr: u8) -> Option<u8>
+    ensures { (known : SeenData) → Sees seen.now known → result ≡ phase_at known addr }
+{
+    seen.late.phase(addr)
 }
 
 /// What is known of the VOUT_MODE that its output voltages are read by.

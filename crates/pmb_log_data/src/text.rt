@@ -3,7 +3,7 @@
 //! Its rows: `tests/rows/log.txt`; `tests_json`, `src/log_lines/`.
 
 ghost use Rattle.std.specs.Prelude.{◌≡◌, ◌+◌, ◌*◌, ◌-◌, ◌≤◌, codes, decimal, length};
-ghost use Rattle.pmb_json_text.specs.Spelling.{all_escaped, escaped, is_plain as is_plain_byte};
+ghost use Rattle.pmb_json_text.specs.Spelling.{all_escaped, escaped, is_plain as is_plain_byte, quoted};
 ghost use Rattle.pmb_log_data.specs.Text.{after_says, at_left, at_right, blank_and_digits, blanks, byte_after_blank, byte_digits, bytes_says, each_after_blank};
 ghost use Rattle.pmb_log_data.specs.Appends.{Appends};
 
@@ -121,6 +121,16 @@ pub fn append_at_right<const N: usize>(out: &mut ArrayVec<u8, N>, width: usize, 
 }
 
 // ---- words
+
+/// Appends bytes as a string of JSON, between double quotes.
+pub(crate) fn append_quoted<const N: usize>(out: &mut ArrayVec<u8, N>, bytes: &[u8])
+    requires { length out.old.items + (2 + 6 * length bytes.now) ≤ N }
+    ensures { Appends (quoted bytes.now) (2 + 6 * length bytes.now) out.old.items out.new.items }
+{
+    append(out, b"\"");
+    append_escaped(out, bytes);
+    append(out, b"\"");
+}
 
 /// Appends bytes as they stand in a string of JSON.
 pub fn append_escaped<const N: usize>(out: &mut ArrayVec<u8, N>, bytes: &[u8])

@@ -18,10 +18,10 @@ use pmb_value::{NumberFormat, Quantity, Sign, WordFault};
 use pmb_voltage::{NoVoltage, VoltageFormat, Voltages};
 
 /// Appends a unit after a blank, where there is one.
-fn append_unit<const N: usize>(out: &mut ArrayVec<u8, N>, unit: Option<&'static str>)
-    requires short { IfSome unit (λ u. length u.now ≤ 5) }
-    requires room { length out.old.items + 6 ≤ N }
-    ensures { Appends (unit_says (option_map (λ u. u.now) unit.entry)) 6 out.old.items out.new.items }
+fn append_unit<const N: usize>(out: &mut ArrayVec<u8, N>, unit: Option<&str>)
+    requires short { IfSome unit (λ u. length u.now ≤ 16) }
+    requires room { length out.old.items + 17 ≤ N }
+    ensures { Appends (unit_says (option_map (λ u. u.now) unit.entry)) 17 out.old.items out.new.items }
 {
     if let Some(unit) = unit {
         append(out, b" ");
@@ -33,12 +33,12 @@ fn append_unit<const N: usize>(out: &mut ArrayVec<u8, N>, unit: Option<&'static 
 fn append_value<const N: usize>(
     out: &mut ArrayVec<u8, N>,
     digits: Digits,
-    unit: Option<&'static str>,
+    unit: Option<&str>,
     quantity: &Quantity,
 )
-    requires short { IfSome unit (λ u. length u.now ≤ 5) }
-    requires room { length out.old.items + 39 ≤ N }
-    ensures { Appends (quantity_says digits (option_map (λ u. u.now) unit.entry) quantity.now) 39 out.old.items out.new.items }
+    requires short { IfSome unit (λ u. length u.now ≤ 16) }
+    requires room { length out.old.items + 50 ≤ N }
+    ensures { Appends (quantity_says digits (option_map (λ u. u.now) unit.entry) quantity.now) 50 out.old.items out.new.items }
 {
     append_decimal(quantity, digits, out);
     append_unit(out, unit);
@@ -70,15 +70,15 @@ fn append_word_fault<const N: usize>(out: &mut ArrayVec<u8, N>, bytes: &[u8], fa
 fn append_decoded<const N: usize>(
     out: &mut ArrayVec<u8, N>,
     digits: Digits,
-    unit: Option<&'static str>,
+    unit: Option<&str>,
     bytes: &[u8],
     format: NumberFormat,
     word: u16,
 )
-    requires short { IfSome unit (λ u. length u.now ≤ 5) }
+    requires short { IfSome unit (λ u. length u.now ≤ 16) }
     requires few { length bytes.now ≤ 2 }
-    requires room { length out.old.items + 39 ≤ N }
-    ensures { Appends (number_says digits (option_map (λ u. u.now) unit.entry) bytes.now format word) 39 out.old.items out.new.items }
+    requires room { length out.old.items + 50 ≤ N }
+    ensures { Appends (number_says digits (option_map (λ u. u.now) unit.entry) bytes.now format word) 50 out.old.items out.new.items }
 {
     match format.value(word) {
         Ok(quantity) => append_value(out, digits, unit, &quantity),
@@ -90,11 +90,11 @@ fn append_decoded<const N: usize>(
 pub(crate) fn append_quantity<const N: usize>(
     out: &mut ArrayVec<u8, N>,
     digits: Digits,
-    unit: Option<&'static str>,
+    unit: Option<&str>,
     format: NumberFormat,
     bytes: &[u8],
 )
-    requires short { IfSome unit (λ u. length u.now ≤ 5) }
+    requires short { IfSome unit (λ u. length u.now ≤ 16) }
     requires few { length bytes.now ≤ 255 }
     requires room { length out.old.items + 773 ≤ N }
     ensures { Appends (of_word (number_says digits (option_map (λ u. u.now) unit.entry) bytes.now format) bytes.now) 773 out.old.items out.new.items }
@@ -127,10 +127,10 @@ pub(crate) struct Reading<'a> {
 pub(crate) fn append_voltage<const N: usize>(
     out: &mut ArrayVec<u8, N>,
     reading: &Reading<'_>,
-    unit: Option<&'static str>,
+    unit: Option<&str>,
     bytes: &[u8],
 )
-    requires short { IfSome unit (λ u. length u.now ≤ 5) }
+    requires short { IfSome unit (λ u. length u.now ≤ 16) }
     requires few { length bytes.now ≤ 255 }
     requires room { length out.old.items + 773 ≤ N }
     ensures { Appends (of_word (vout_says reading.now.digits (option_map (λ u. u.now) unit.entry) bytes.now (voltages_data reading.now.voltages) reading.now.basis reading.now.code reading.now.sign) bytes.now) 773 out.old.items out.new.items }
@@ -145,11 +145,11 @@ pub(crate) fn append_voltage<const N: usize>(
 fn append_word<const N: usize>(
     out: &mut ArrayVec<u8, N>,
     reading: &Reading<'_>,
-    unit: Option<&'static str>,
+    unit: Option<&str>,
     bytes: &[u8],
     word: u16,
 )
-    requires short { IfSome unit (λ u. length u.now ≤ 5) }
+    requires short { IfSome unit (λ u. length u.now ≤ 16) }
     requires few { length bytes.now ≤ 2 }
     requires room { length out.old.items + 75 ≤ N }
     ensures { Appends (vout_says reading.now.digits (option_map (λ u. u.now) unit.entry) bytes.now (voltages_data reading.now.voltages) reading.now.basis reading.now.code reading.now.sign word) 75 out.old.items out.new.items }
@@ -182,12 +182,12 @@ fn append_no_page<const N: usize>(out: &mut ArrayVec<u8, N>, page: Option<u8>)
 fn append_by_mode<const N: usize>(
     out: &mut ArrayVec<u8, N>,
     reading: &Reading<'_>,
-    unit: Option<&'static str>,
+    unit: Option<&str>,
     bytes: &[u8],
     mode: u8,
     word: u16,
 )
-    requires short { IfSome unit (λ u. length u.now ≤ 5) }
+    requires short { IfSome unit (λ u. length u.now ≤ 16) }
     requires few { length bytes.now ≤ 2 }
     requires room { length out.old.items + 75 ≤ N }
     ensures { Appends (by_mode_says reading.now.digits (option_map (λ u. u.now) unit.entry) bytes.now reading.now.voltages.page mode reading.now.basis (format_under (voltages_data reading.now.voltages) mode reading.now.code reading.now.sign) word) 75 out.old.items out.new.items }
@@ -208,13 +208,13 @@ fn append_by_mode<const N: usize>(
 fn append_in_format<const N: usize>(
     out: &mut ArrayVec<u8, N>,
     reading: &Reading<'_>,
-    unit: Option<&'static str>,
+    unit: Option<&str>,
     bytes: &[u8],
     mode: u8,
     format: VoltageFormat,
     word: u16,
 )
-    requires short { IfSome unit (λ u. length u.now ≤ 5) }
+    requires short { IfSome unit (λ u. length u.now ≤ 16) }
     requires few { length bytes.now ≤ 2 }
     requires room { length out.old.items + 75 ≤ N }
     ensures { Appends (marked_says reading.now.digits (option_map (λ u. u.now) unit.entry) bytes.now mode reading.now.basis format.is_ratio (value_in format.number word)) 75 out.old.items out.new.items }
@@ -232,13 +232,13 @@ fn append_in_format<const N: usize>(
 fn append_factor<const N: usize>(
     out: &mut ArrayVec<u8, N>,
     digits: Digits,
-    unit: Option<&'static str>,
+    unit: Option<&str>,
     is_ratio: bool,
     quantity: &Quantity,
 )
-    requires short { IfSome unit (λ u. length u.now ≤ 5) }
-    requires room { length out.old.items + 49 ≤ N }
-    ensures { Appends (factor_says digits (option_map (λ u. u.now) unit.entry) is_ratio quantity.now) 49 out.old.items out.new.items }
+    requires short { IfSome unit (λ u. length u.now ≤ 16) }
+    requires room { length out.old.items + 50 ≤ N }
+    ensures { Appends (factor_says digits (option_map (λ u. u.now) unit.entry) is_ratio quantity.now) 50 out.old.items out.new.items }
 {
     if is_ratio {
         append_decimal(quantity, digits, out);

@@ -19,8 +19,8 @@ bad_token_says place word = codes "no token: " ++ all_escaped (take 32 word)
 -- what the line says, by what is known where the packet begins
 abbrev pub says : SeenData → Place → WhatData → List ℕ
 says seen place (Write part parts p) = write_says seen part parts p
-says seen place (Read t) = read_says seen t
-says seen place (Call t) = call_says t.bytes t.reply
+says seen place (Read t) = read_says seen t.addr t.code t.reply
+says seen place (Call t) = call_says seen t.addr t.code t.bytes t.reply
 says seen place (Refused parts addr sent at_read) = refused_says seen parts addr sent at_read
 says seen place (Alert t) = codes "answered an alert"
 says seen place NoAlert = codes "alert, and no device answered"

@@ -30,4 +30,4 @@ pub use layout::Layout;
 pub use line::append_log_line;
 
 /// The most bytes of a line with its LF.
-pub const LINE: usize = 2048;
+pub const LINE: usize = 4096;

@@ -15,13 +15,13 @@ ghost use Rattle.pmb_log_data.specs.Appends.{Appends};
 use crate::LINE;
 use crate::columns::append_columns;
 use crate::layout::Layout;
-use crate::packets::{append_call, append_write};
+use crate::packets::{PACKET, append_call, append_read, append_write};
 use crate::refusals::append_refusal;
 use crate::refused::append_refused;
 use arrayvec::ArrayVec;
 use pmb_facts::{Fact, What};
 use pmb_json_objects::{Seen, WORD};
-use pmb_log_data::{append, append_data, append_escaped, append_number};
+use pmb_log_data::{append, append_escaped, append_number};
 use pmb_places::Place;
 
 /// Appends the line of a fact, with its LF.
@@ -58,10 +58,10 @@ fn append_says<const N: usize>(
     what: What<'_>,
 )
     requires few { IsShort what }
-    requires room { length out.old.items + 1600 ≤ N }
+    requires room { length out.old.items + PACKET ≤ N }
     ensures says { (known : SeenData) (what_is : WhatData) → Sees seen.now known → Stands what.entry what_is
-        → Appends (says known place what_is) 1600 out.old.items out.new.items }
-    ensures longer { length out.new.items ≤ length out.old.items + 1600 }
+        → Appends (says known place what_is) PACKET out.old.items out.new.items }
+    ensures longer { length out.new.items ≤ length out.old.items + PACKET }
 {
     match what {
         What::Write {
@@ -74,8 +74,14 @@ fn append_says<const N: usize>(
             code,
             reply,
             ..
-        } => append_data(out, seen, addr, code, reply),
-        What::Call { sent, reply, .. } => append_call(out, sent, reply),
+        } => append_read(out, seen, addr, code, reply),
+        What::Call {
+            addr,
+            code,
+            sent,
+            reply,
+            ..
+        } => append_call(out, seen, addr, code, sent, reply),
         What::Refused {
             parts,
             addr,

@@ -8,20 +8,23 @@ use Rattle.pmb_json_text.specs.Json.{Json}
 use Rattle.pmb_json_text.specs.Member.{array_of, array_text, items_text, members_text, named}
 use Rattle.pmb_json_text.proofs.Pieces.{array_in_pieces, one_member}
 use Rattle.pmb_meaning.specs.Field.{SaidField}
+use Rattle.pmb_meaning.specs.Names.{RegisterNames}
 use Rattle.pmb_meaning.specs.Object.{field_members, says_members, says_object}
 
 -- the key and a brace, the fields, a brace
-object_in_pieces : (fields : List SaidField) → members_text Later (says_members (Some fields))
-    ≡ codes ",\"says\":{" ++ (members_text First (field_members fields) ++ codes "}")
+object_in_pieces : (names : RegisterNames) (fields : List SaidField)
+    → members_text Later (says_members names (Some fields))
+    ≡ codes ",\"says\":{" ++ (members_text First (field_members names fields) ++ codes "}")
 unfolding members_text
-object_in_pieces fields = one_member Later (codes "says") (says_object fields)
+object_in_pieces names fields = one_member Later (codes "says") (says_object names fields)
 
 -- no fields are no member
-pub nothing_appended : (found : Option (List SaidField)) (old : List ℕ) → None ≡ found
-    → old ≡ old ++ members_text Later (says_members found)
+pub nothing_appended : (names : RegisterNames) (found : Option (List SaidField)) (old : List ℕ) → None ≡ found
+    → old ≡ old ++ members_text Later (says_members names found)
 unfolding members_text
-nothing_appended found old is =
-    subst (λ (o : Option (List SaidField)). old ≡ old ++ members_text Later (says_members o)) is (sym (append-nil old))
+nothing_appended names found old is =
+    subst (λ (o : Option (List SaidField)). old ≡ old ++ members_text Later (says_members names o)) is
+    (sym (append-nil old))
 
 -- nothing is no member and no value
 pub no_member : (old : List ℕ) → old ≡ old ++ members_text First []
@@ -39,12 +42,14 @@ three_pieces old first second third {a} {b} {new} begun inside ended =
     ended ∙ ap (λ (t : List ℕ). t ++ third) (inside ∙ ap (λ (t : List ℕ). t ++ second) begun)
     ∙ append_assoc (old ++ first) second third ∙ append_assoc old first (second ++ third)
 
-pub object_appended : (fields : List SaidField) (old : List ℕ) {a b new : List ℕ} → a ≡ old ++ codes ",\"says\":{"
-    → b ≡ a ++ members_text First (field_members fields) → new ≡ b ++ codes "}"
-    → new ≡ old ++ members_text Later (says_members (Some fields))
-object_appended fields old begun inside ended =
-    three_pieces old (codes ",\"says\":{") (members_text First (field_members fields)) (codes "}") begun inside ended
-    ∙ ap (λ (t : List ℕ). old ++ t) (sym (object_in_pieces fields))
+pub object_appended : (names : RegisterNames) (fields : List SaidField) (old : List ℕ) {a b new : List ℕ}
+    → a ≡ old ++ codes ",\"says\":{"
+    → b ≡ a ++ members_text First (field_members names fields) → new ≡ b ++ codes "}"
+    → new ≡ old ++ members_text Later (says_members names (Some fields))
+object_appended names fields old begun inside ended =
+    three_pieces old (codes ",\"says\":{") (members_text First (field_members names fields)) (codes "}") begun inside
+    ended
+    ∙ ap (λ (t : List ℕ). old ++ t) (sym (object_in_pieces names fields))
 
 pub array_appended : (place : ItemOrder) (key : List ℕ) (values : List Json) (old : List ℕ) {a b new : List ℕ}
     → a ≡ old ++ array_text place key → b ≡ a ++ items_text First values → new ≡ b ++ codes "]"

@@ -12,35 +12,42 @@ use Rattle.std.proofs.lemmas.List.{append-nil, map-append}
 use Rattle.std.proofs.lemmas.Nat.{pow_pos}
 use Rattle.std.proofs.lemmas.Option.{none-some, same_Some}
 use Rattle.arrayvec.specs.ArrayVec.{ArrayVec}
+use Rattle.pmb_command.specs.Bus.{IsDevice}
+use Rattle.pmb_command.specs.Entry.{EntryParts}
+use Rattle.pmb_command.specs.Parts.{DeviceParts}
 use Rattle.pmb_command.proofs.Finding.{find_among}
-use Rattle.pmb_json_text.specs.Json.{AreDistinct, HasDistinctKeys, IsJsonText, ItemsHaveDistinctKeys, string}
+use Rattle.pmb_command_data.specs.Standard.{is_plain_standard}
+use Rattle.pmb_json_text.specs.Json.{AreDistinct, HasDistinctKeys, IsJsonText, ItemsHaveDistinctKeys, Json, string}
 use Rattle.pmb_json_text.specs.Json.{MembersHaveDistinctKeys, keys as json_keys}
-use Rattle.pmb_json_text.specs.Spelling.{IsWritable, spelled}
-use Rattle.pmb_json_text.specs.Member.{AreWritable, IsPart, all_plain, are_distinct, is_key, items_of, members_of}
+use Rattle.pmb_json_text.specs.Spelling.{AreBytes, IsWritable, spelled}
+use Rattle.pmb_json_text.specs.Member.{AreWritable, IsPart, Member, all_plain, are_distinct, is_key, items_of, members_of}
 use Rattle.pmb_json_text.proofs.Distinct.{distinct_by_test, part_is_distinct, parts_in_a_row, whole_is_part}
 use Rattle.pmb_json_text.proofs.Grammar.{members_are_writable, values}
 use Rattle.pmb_meaning.specs.Data.{Exchange, written, read, sent, called, bytes_of}
-use Rattle.pmb_meaning.specs.Field.{Said, word, number, truth, words, hex, SaidField, field, fields_parts}
-use Rattle.pmb_meaning.specs.Laws.{keys}
+use Rattle.pmb_meaning.specs.Field.{Said, word, number, truth, words, masked, hex, SaidField, field, fields_parts}
+use Rattle.pmb_meaning.specs.Laws.{IsSaysOrNone, keys}
 use Rattle.pmb_meaning.specs.Layout.{CommandLayout, FieldRow}
 use Rattle.pmb_meaning.specs.Meaning.{applies, fields_of, layout_of, number_of, page_plus, page_plus_called}
-use Rattle.pmb_meaning.specs.Meaning.{page_plus_written, picked, rows_fields, said, table_fields}
-use Rattle.pmb_meaning.specs.Object.{field_members, says_members, says_object, value_json}
+use Rattle.pmb_meaning.specs.Meaning.{page_plus_written, picked, rows_fields, said, said_fields, table_fields}
+use Rattle.pmb_meaning.specs.Names.{RegisterNames, mask_names, names_of}
+use Rattle.pmb_meaning.specs.Object.{field_members, says_members, says_members_of, says_object, value_json}
 use Rattle.pmb_meaning.specs.Tables.{layouts, page_and_code}
 use Rattle.pmb_meaning.specs.declared.field.Field.{Field}
 use Rattle.pmb_meaning.specs.machine.Room.{fields_room, said_room}
-use Rattle.pmb_meaning.specs.machine.Sound.{AreSound, are_bits, have_keys, is_plain_row, is_plain_sense, is_sound_condition}
+use Rattle.pmb_meaning.specs.machine.Sound.{AreRegisterNames, AreSound, are_bits, have_keys, is_plain_row, is_plain_sense}
+use Rattle.pmb_meaning.specs.machine.Sound.{is_sound_condition}
 use Rattle.pmb_meaning.specs.machine.Sound.{is_sound_layout, is_sound_row, is_told, is_wide_enough, row_keys, rows_room}
 use Rattle.pmb_meaning.specs.machine.Sound.{sense_room, byte_count}
 use Rattle.pmb_meaning.proofs.LayoutLemmas.{all_are_sound, is_theirs}
 use Rattle.pmb_meaning.proofs.Turns.{fields_room-append}
-use Rattle.pmb_meaning.proofs.ValueLemmas.{hex_are_bytes, plain_are_bytes, said_has_room, said_writable}
+use Rattle.pmb_meaning.proofs.ValueLemmas.{device_names, hex_are_bytes, plain_are_bytes, said_has_room, said_writable}
 
 -- ---- a field
 
 -- a field that can be written
 abbrev IsGood : SaidField → Type 0
-IsGood f = (is_key f.key ≡ true) × IsWritable (value_json f.value)
+IsGood f =
+    (is_key f.key ≡ true) × ((names : RegisterNames) → AreRegisterNames names → IsWritable (value_json names f.value))
 
 -- what a row says
 abbrev row_said : ℕ → FieldRow → SaidField
@@ -54,7 +61,7 @@ row_is_good n r sound plain =
     let told = and_parts (is_key r.key) (is_plain_sense r.sense) plain in
     let some : 0 < 2 ^ r.width = pow_pos r.width in
     let fits : picked n r.low r.width < 2 ^ r.width = omega (arith, some) in
-    (told.0, said_writable r.sense r.width (picked n r.low r.width) wide told.1 fits few)
+    (told.0, λ names are. said_writable names are r.sense r.width (picked n r.low r.width) wide told.1 fits few)
 
 -- ---- the fields of rows
 
@@ -100,22 +107,23 @@ all_have_keys : (fields : List SaidField) → AllByRecursion IsGood fields → h
 all_have_keys [] good = refl
 all_have_keys (f ∷ fields) good = and_from (is_key f.key) (have_keys fields) good.0.0 (all_have_keys fields good.1)
 
-all_are_writable : (fields : List SaidField) → AllByRecursion IsGood fields → AreWritable (field_members fields)
-all_are_writable [] good = tt
-all_are_writable (f ∷ fields) good = (
+all_are_writable : (names : RegisterNames) → AreRegisterNames names → (fields : List SaidField)
+    → AllByRecursion IsGood fields → AreWritable (field_members names fields)
+all_are_writable names are [] good = tt
+all_are_writable names are (f ∷ fields) good = (
   (
     plain_are_bytes f.key (and_parts (nat_le (length f.key) 16) (all_plain f.key) good.0.0).1,
-    good.0.1,
+    good.0.1 names are,
   ),
-  all_are_writable fields good.1,
+  all_are_writable names are fields good.1,
 )
 
 sound_from : (fields : List SaidField) (all : List (List ℕ)) → AllByRecursion IsGood fields → IsPart (keys fields) all
-    → are_distinct all ≡ true → fields_room fields ≤ 900 → AreSound fields
+    → are_distinct all ≡ true → fields_room fields ≤ 1620 → AreSound fields
 sound_from fields all good part distinct room = record {
   keyed = all_have_keys fields good;
   distinct = part_is_distinct (keys fields) all part (distinct_by_test all distinct);
-  writable = all_are_writable fields good;
+  writable = λ names are. all_are_writable names are fields good;
   room = room;
 }
 
@@ -134,9 +142,9 @@ layout_fields_are_sound code payload l n found =
     let rows = and_parts (nat_le (length l.rows) 6) (list_all is_sound_row l.rows)
     (and_parts (nat_le (byte_count l.way) 7) (nat_le (length l.rows) 6 && list_all is_sound_row l.rows) sound).1 in
     let plain = and_parts (list_all is_plain_row l.rows)
-    (are_distinct (row_keys l.rows) && nat_le (rows_room l.rows) 900) told in
-    let rest = and_parts (are_distinct (row_keys l.rows)) (nat_le (rows_room l.rows) 900) plain.1 in
-    let room : rows_room l.rows ≤ 900 = leb-true (rows_room l.rows) 900 rest.1 in
+    (are_distinct (row_keys l.rows) && nat_le (rows_room l.rows) 1620) told in
+    let rest = and_parts (are_distinct (row_keys l.rows)) (nat_le (rows_room l.rows) 1620) plain.1 in
+    let room : rows_room l.rows ≤ 1620 = leb-true (rows_room l.rows) 1620 rest.1 in
     sound_from (rows_fields l.rows n) (row_keys l.rows) (rows_are_good n l.rows rows.1 plain.0)
     (keys_are_of_rows n l.rows) rest.0 (omega (arith, room, rows_have_room n l.rows))
 
@@ -175,7 +183,7 @@ unfolding page_and_code
 head_room = refl
 
 hex_is_good : (others : List ℕ) → IsGood (field (codes "data") (hex others))
-hex_is_good others = (refl, hex_are_bytes others)
+hex_is_good others = (refl, λ names are. hex_are_bytes others)
 
 -- of 255 bytes at most
 page_plus_fields_are_sound : (n : ℕ) (others : List ℕ) → length others ≤ 255
@@ -239,56 +247,82 @@ fields_are_sound code (called first reply) fields is =
     one_or_other (nat_eq code 0x06) (page_plus_called first reply) (table_fields code (called first reply)) fields
     (page_plus_called_is_sound first reply fields) (table_fields_are_sound code (called first reply) fields) is
 
+-- those of a command that is the standard's
+if_it_is : (b : Bool) (found : Option (List SaidField)) (fields : List SaidField) → cond b found None ≡ Some fields
+    → found ≡ Some fields
+if_it_is true found fields is = is
+if_it_is false found fields is = absurd (none-some fields is)
+
+said_fields_are_sound : (e : EntryParts) (payload : Exchange) (fields : List SaidField)
+    → said_fields e payload ≡ Some fields → AreSound fields
+said_fields_are_sound e payload fields is =
+    fields_are_sound e.code payload fields (if_it_is (is_plain_standard e) (fields_of e.code payload) fields is)
+
 -- as the code has them
-pub found_are_sound : (code : ℕ) (payload : Exchange) (found : Option (ArrayVec Field))
-    → option_map fields_parts found ≡ fields_of code payload → IfSome found (λ all. AreSound (fields_parts all))
-found_are_sound code payload None is = tt
-found_are_sound code payload (Some all) is = fields_are_sound code payload (fields_parts all) (sym is)
+pub found_are_sound : (e : EntryParts) (payload : Exchange) (found : Option (ArrayVec Field))
+    → option_map fields_parts found ≡ said_fields e payload → IfSome found (λ all. AreSound (fields_parts all))
+found_are_sound e payload None is = tt
+found_are_sound e payload (Some all) is = said_fields_are_sound e payload (fields_parts all) (sym is)
 
 -- ---- the object of them
-
-pub members_are_sound : (code : ℕ) (payload : Exchange) (found : Option (List SaidField)) → fields_of code payload ≡ found
-    → AreWritable (says_members found)
-members_are_sound code payload None is = tt
-members_are_sound code payload (Some fields) is = (
-  (
-    plain_are_bytes (codes "says") refl,
-    members_are_writable (field_members fields) (fields_are_sound code payload fields is).writable,
-  ),
-  tt,
-)
 
 texts_have_no_keys : (names : List (List ℕ)) → ItemsHaveDistinctKeys (items_of (map string names))
 texts_have_no_keys [] = tt
 texts_have_no_keys (name ∷ names) = (tt, texts_have_no_keys names)
 
-value_has_no_keys : (v : Said) → HasDistinctKeys (value_json v)
-value_has_no_keys (word text) = tt
-value_has_no_keys (number n) = tt
-value_has_no_keys (truth holds) = tt
-value_has_no_keys (words names) = texts_have_no_keys names
-value_has_no_keys (hex all) = tt
+value_has_no_keys : (names : RegisterNames) (v : Said) → HasDistinctKeys (value_json names v)
+value_has_no_keys names (word text) = tt
+value_has_no_keys names (number n) = tt
+value_has_no_keys names (truth holds) = tt
+value_has_no_keys names (words texts) = texts_have_no_keys texts
+value_has_no_keys names (masked register byte) = texts_have_no_keys (mask_names names register byte)
+value_has_no_keys names (hex all) = tt
 
-values_have_no_keys : (fields : List SaidField) → MembersHaveDistinctKeys (members_of (field_members fields))
-values_have_no_keys [] = tt
-values_have_no_keys (f ∷ fields) = (value_has_no_keys f.value, values_have_no_keys fields)
+values_have_no_keys : (names : RegisterNames) (fields : List SaidField)
+    → MembersHaveDistinctKeys (members_of (field_members names fields))
+values_have_no_keys names [] = tt
+values_have_no_keys names (f ∷ fields) = (value_has_no_keys names f.value, values_have_no_keys names fields)
 
-same_keys : (fields : List SaidField) → keys fields ≡ json_keys (members_of (field_members fields))
-same_keys [] = refl
-same_keys (f ∷ fields) = ap (λ (ks : List (List ℕ)). f.key ∷ ks) (same_keys fields)
+same_keys : (names : RegisterNames) (fields : List SaidField)
+    → keys fields ≡ json_keys (members_of (field_members names fields))
+same_keys names [] = refl
+same_keys names (f ∷ fields) = ap (λ (ks : List (List ℕ)). f.key ∷ ks) (same_keys names fields)
 
-pub object_has_distinct_keys : (fields : List SaidField) → AreDistinct (keys fields)
-    → HasDistinctKeys (says_object fields)
-object_has_distinct_keys fields distinct = (subst AreDistinct (same_keys fields) distinct, values_have_no_keys fields)
+object_has_distinct_keys : (names : RegisterNames) (fields : List SaidField) → AreDistinct (keys fields)
+    → HasDistinctKeys (says_object names fields)
+object_has_distinct_keys names fields distinct =
+    (subst AreDistinct (same_keys names fields) distinct, values_have_no_keys names fields)
 
-pub object_is_json : (fields : List SaidField) → AreWritable (field_members fields)
-    → IsJsonText (spelled (says_object fields)) (says_object fields)
-object_is_json fields writable = (
-  [],
-  spelled (says_object fields),
-  [],
-  tt,
-  values (says_object fields) (members_are_writable (field_members fields) writable),
-  tt,
-  sym (append-nil (spelled (says_object fields))),
-)
+-- what can be written is JSON
+spelled_is_json : (value : Json) → IsWritable value → IsJsonText (spelled value) value
+spelled_is_json value writable =
+    ([], spelled value, [], tt, values value writable, tt, sym (append-nil (spelled value)))
+
+one_or_none : (names : RegisterNames) → AreRegisterNames names → (found : Option (List SaidField))
+    → ((fields : List SaidField) → found ≡ Some fields → AreSound fields) → IsSaysOrNone (says_members names found)
+one_or_none names are None sound = tt
+one_or_none names are (Some fields) sound =
+    let all = sound fields refl in
+    let writable = members_are_writable (field_members names fields) (all.writable names are) in
+    record {
+      key = refl;
+      writable = writable;
+      json = spelled_is_json (says_object names fields) writable;
+      distinct = object_has_distinct_keys names fields all.distinct;
+    }
+
+pub says_is_one_or_none : (device : DeviceParts) (e : EntryParts) (payload : Exchange) → IsDevice device
+    → IsSaysOrNone (says_members_of device e payload)
+says_is_one_or_none device e payload is =
+    one_or_none (names_of device) (device_names device is) (said_fields e payload) (said_fields_are_sound e payload)
+
+one_is_writable : (members : List Member) → IsSaysOrNone members → AreWritable members
+one_is_writable [] is = tt
+one_is_writable (m ∷ []) is =
+    ((subst AreBytes (sym is.key) (plain_are_bytes (codes "says") refl), is.writable), tt)
+one_is_writable (m ∷ other ∷ more) is = absurd is
+
+pub says_is_writable : (device : DeviceParts) (e : EntryParts) (payload : Exchange) → IsDevice device
+    → AreWritable (says_members_of device e payload)
+says_is_writable device e payload is =
+    one_is_writable (says_members_of device e payload) (says_is_one_or_none device e payload is)

@@ -9,6 +9,7 @@ use Rattle.pmb_json_text.specs.Json.{string}
 use Rattle.pmb_json_text.specs.Member.{items_text, members_text, place_after}
 use Rattle.pmb_json_text.proofs.Pieces.{items_in_parts, members_in_parts}
 use Rattle.pmb_meaning.specs.Field.{SaidField, all_parts, field_parts, texts}
+use Rattle.pmb_meaning.specs.Names.{RegisterNames}
 use Rattle.pmb_meaning.specs.Object.{field_member, field_members}
 use Rattle.pmb_meaning.specs.Words.{between, field_words, fields_words, spaced}
 use Rattle.pmb_meaning.specs.declared.field.Field.{Field}
@@ -63,15 +64,17 @@ appended_more old front piece {middle} {new} {whole} first second same =
 
 -- ---- the members of an object, the values of an array, and words
 
-abbrev pub said_members : ItemOrder → List SaidField → List ℕ
-said_members place fields = members_text place (field_members fields)
+abbrev pub said_members : RegisterNames → ItemOrder → List SaidField → List ℕ
+said_members names place fields = members_text place (field_members names fields)
 
-pub said_members_in_parts : (place : ItemOrder) (front back : List SaidField) → said_members place (front ++ back)
-    ≡ said_members place front ++ said_members (place_after place front) back
-said_members_in_parts place front back =
-    ap (members_text place) (map-append field_member front back)
-    ∙ members_in_parts place (field_members front) (field_members back)
-    ∙ ap (λ (p : ItemOrder). said_members place front ++ said_members p back) (place_after_map place field_member front)
+pub said_members_in_parts : (names : RegisterNames) (place : ItemOrder) (front back : List SaidField)
+    → said_members names place (front ++ back)
+    ≡ said_members names place front ++ said_members names (place_after place front) back
+said_members_in_parts names place front back =
+    ap (members_text place) (map-append (field_member names) front back)
+    ∙ members_in_parts place (field_members names front) (field_members names back)
+    ∙ ap (λ (p : ItemOrder). said_members names place front ++ said_members names p back)
+    (place_after_map place (field_member names) front)
 
 abbrev pub text_items : ItemOrder → List (List ℕ) → List ℕ
 text_items place names = items_text place (map string names)
@@ -94,17 +97,18 @@ spaced_in_parts place [] back = refl
 spaced_in_parts place (text ∷ front) back =
     ap (λ (t : List ℕ). between (codes " ") place ++ (text ++ t)) (spaced_later front back) ∙ simp append_assoc
 
-fields_later : (front back : List SaidField)
-    → fields_words Later (front ++ back) ≡ fields_words Later front ++ fields_words Later back
-fields_later [] back = refl
-fields_later (f ∷ front) back =
-    ap (λ (t : List ℕ). field_words Later f ++ t) (fields_later front back) ∙ simp append_assoc
+fields_later : (names : RegisterNames) (front back : List SaidField)
+    → fields_words names Later (front ++ back) ≡ fields_words names Later front ++ fields_words names Later back
+fields_later names [] back = refl
+fields_later names (f ∷ front) back =
+    ap (λ (t : List ℕ). field_words names Later f ++ t) (fields_later names front back) ∙ simp append_assoc
 
-pub fields_words_in_parts : (place : ItemOrder) (front back : List SaidField) → fields_words place (front ++ back)
-    ≡ fields_words place front ++ fields_words (place_after place front) back
-fields_words_in_parts place [] back = refl
-fields_words_in_parts place (f ∷ front) back =
-    ap (λ (t : List ℕ). field_words place f ++ t) (fields_later front back) ∙ simp append_assoc
+pub fields_words_in_parts : (names : RegisterNames) (place : ItemOrder) (front back : List SaidField)
+    → fields_words names place (front ++ back)
+    ≡ fields_words names place front ++ fields_words names (place_after place front) back
+fields_words_in_parts names place [] back = refl
+fields_words_in_parts names place (f ∷ front) back =
+    ap (λ (t : List ℕ). field_words names place f ++ t) (fields_later names front back) ∙ simp append_assoc
 
 -- a text after what stands before it
 pub spaced_piece : (place : ItemOrder) (text out : List ℕ) {middle new : List ℕ}
@@ -114,8 +118,9 @@ spaced_piece place text out first second =
     ∙ ap (λ (t : List ℕ). out ++ (between (codes " ") place ++ t)) (sym (append-nil text))
 
 -- one field alone
-pub one_field : (place : ItemOrder) (f : SaidField) → fields_words place (f ∷ []) ≡ field_words place f
-one_field place f = append-nil (field_words place f)
+pub one_field : (names : RegisterNames) (place : ItemOrder) (f : SaidField)
+    → fields_words names place (f ∷ []) ≡ field_words names place f
+one_field names place f = append-nil (field_words names place f)
 
 -- ---- room
 

@@ -1,20 +1,25 @@
 -- What fields say can be written, and takes little room: words of the tables by a test, numbers because they have few
--- bits, the names of status bits by a test of their tables. For `SoundLemmas`.
+-- bits, the names of status bits by a test of the standard's tables, or by that of an accepted profile. For `SoundLemmas`.
 use Rattle.std.proofs.Common.{◌≡◌, ℕ, zero, suc, ◌+◌, ◌-◌, ◌*◌, ◌/◌, ◌%◌, ◌^◌, ◌<◌, ◌≤◌, ◌&&◌, Bool, true, false, cond}
 use Rattle.std.proofs.Common.{Option, Some, None, List, [], ◌∷◌, ◌++◌, ℤ, pos, negsuc, unsigned_abs, codes, length}
 use Rattle.std.proofs.Common.{max, map, nat_eq, nat_le, nat_lt, slice_index, slice_get, reverse, inl, inr, refl, sym, ap, ◌∙◌}
 use Rattle.std.proofs.Common.{subst, arith}
 use Rattle.std.specs.Prelude.{find, option_map, unwrap_or}
 use Rattle.std.specs.Fmt.{decimal, signed_decimal}
-use Rattle.std.specs.Option.{option_flatten}
-use Rattle.std.specs.List.{AllByRecursion, list_all}
+use Rattle.std.specs.Option.{IfSome, option_flatten}
+use Rattle.std.specs.List.{AllByRecursion, list_all, list_any}
 use Rattle.std.proofs.Math.Pow.{pow_mono}
-use Rattle.std.proofs.lemmas.Bool.{and_parts, cases_lt, leb-true, ltb-true}
+use Rattle.std.proofs.lemmas.Bool.{and_parts, cases_Bool, cases_lt, eqb-true, leb-true, ltb-true}
 use Rattle.std.proofs.lemmas.Fmt.{decimal_digit}
 use Rattle.std.proofs.lemmas.Int.{ints}
 use Rattle.std.proofs.lemmas.List.{append-nil}
 use Rattle.hex.specs.Hex.{encode_lower, encode_with, lower_digits}
+use Rattle.pmb_command.specs.Bus.{IsBit, IsCommand, IsDevice}
+use Rattle.pmb_command.specs.Entry.{EntryParts}
+use Rattle.pmb_command.specs.Names.{is_name, is_name_byte, name_characters}
+use Rattle.pmb_command.specs.Parts.{CommandParts, DeviceParts, NamedBit, command_with, name_of_bit, named_bits}
 use Rattle.pmb_command.specs.StatusBits.{BitNames, bit_text, status_bits}
+use Rattle.pmb_command_data.specs.Bits.{bit_text_in, or_name}
 use Rattle.pmb_format.specs.Words.{twos_complement}
 use Rattle.pmb_format.proofs.Words.{complement_high, complement_low}
 use Rattle.pmb_json_text.specs.Json.{IsNumber, string}
@@ -22,13 +27,14 @@ use Rattle.pmb_json_text.specs.Spelling.{AreBytes, IsWritable, ItemsAreWritable,
 use Rattle.pmb_json_text.specs.Member.{all_plain, items_of}
 use Rattle.pmb_json_text.proofs.Decimals.{number_decimal, whole_decimal}
 use Rattle.pmb_json_text.proofs.Grammar.{plain_parts}
-use Rattle.pmb_meaning.specs.Field.{Said, word, number, truth, words, hex}
+use Rattle.pmb_table.proofs.Accepted.{All-find}
+use Rattle.pmb_meaning.specs.Field.{Said, word, number, truth, words, masked, hex}
 use Rattle.pmb_meaning.specs.Layout.{NamedValue, Sense, flag, signed, number_or, choice, command_code, mask}
 use Rattle.pmb_meaning.specs.Meaning.{named, said}
-use Rattle.pmb_meaning.specs.Names.{is_set, named_bit, set_names}
+use Rattle.pmb_meaning.specs.Names.{RegisterNames, is_set, mask_names, named_bit, names_of, set_names}
 use Rattle.pmb_meaning.specs.Object.{value_json}
 use Rattle.pmb_meaning.specs.machine.Room.{said_room, words_room}
-use Rattle.pmb_meaning.specs.machine.Sound.{are_plain_values, is_plain_sense, is_plain_value, is_short_number}
+use Rattle.pmb_meaning.specs.machine.Sound.{AreNamed, AreRegisterNames, are_plain_values, is_plain_sense, is_plain_value, is_short_number}
 use Rattle.pmb_meaning.specs.machine.Sound.{is_wide_enough, names_room, sense_room}
 
 -- ---- texts
@@ -105,19 +111,20 @@ small_complement width n few fits =
 
 -- ---- values
 
-plain_value_writable : (v : Said) → is_plain_value v ≡ true → IsWritable (value_json v)
-plain_value_writable (word text) plain = plain_are_bytes text plain
-plain_value_writable (number n) plain = signed_number n (short_number n plain)
-plain_value_writable (truth holds) plain = tt
-plain_value_writable (words names) plain = texts_are_writable names (plain_texts names plain)
-plain_value_writable (hex all) plain = hex_are_bytes all
+plain_value_writable : (names : RegisterNames) (v : Said) → is_plain_value v ≡ true → IsWritable (value_json names v)
+plain_value_writable names (word text) plain = plain_are_bytes text plain
+plain_value_writable names (number n) plain = signed_number n (short_number n plain)
+plain_value_writable names (truth holds) plain = tt
+plain_value_writable names (words texts) plain = texts_are_writable texts (plain_texts texts plain)
+plain_value_writable names (masked register byte) plain = absurd (cc plain)
+plain_value_writable names (hex all) plain = hex_are_bytes all
 
-named_are_writable : (names : List NamedValue) → are_plain_values names ≡ true
-    → AllByRecursion (λ x. IsWritable (value_json x.value)) names
-named_are_writable [] plain = tt
-named_are_writable (x ∷ names) plain =
-    let here = and_parts (is_plain_value x.value) (are_plain_values names) plain in
-    (plain_value_writable x.value here.0, named_are_writable names here.1)
+named_are_writable : (names : RegisterNames) (values : List NamedValue) → are_plain_values values ≡ true
+    → AllByRecursion (λ x. IsWritable (value_json names x.value)) values
+named_are_writable names [] plain = tt
+named_are_writable names (x ∷ values) plain =
+    let here = and_parts (is_plain_value x.value) (are_plain_values values) plain in
+    (plain_value_writable names x.value here.0, named_are_writable names values here.1)
 
 -- the value of a name, or else the other one: what holds of all of these holds of it
 one_of_two : (P : Said → Type 0) (b : Bool) (x : NamedValue) (rest : Option NamedValue) (other : Said) → P x.value
@@ -133,11 +140,11 @@ named_all P (x ∷ names) n other all there =
     one_of_two P (nat_eq x.number n) x (find (λ y. nat_eq y.number n) names) other all.0
     (named_all P names n other all.1 there)
 
--- ---- the names of status bits
+-- ---- the standard's names of status bits
 
 abbrev is_plain_name : Option (List ℕ) → Bool
 is_plain_name None = true
-is_plain_name (Some name) = all_plain name && nat_le (length name) 17
+is_plain_name (Some name) = all_plain name && nat_le (length name) 32
 
 plain_at : (names : BitNames) (bit : ℕ) → list_all is_plain_name names ≡ true
     → is_plain_name (option_flatten (slice_get names bit)) ≡ true
@@ -171,23 +178,74 @@ bit_text_is_plain : (code bit : ℕ) → is_plain_name (bit_text code bit) ≡ t
 unfolding bit_text
 bit_text_is_plain code bit = plain_at (reverse (status_bits code)) bit (status_bits_are_plain code).each
 
+-- ---- names of bits, the profile's or the standard's: they are bytes, and short
+
+record IsShortName (name : List ℕ) : Type 0 where
+  bytes : AreBytes name
+  short : length name ≤ 32
+
+standard_name_is_short : (name : Option (List ℕ)) → is_plain_name name ≡ true → IfSome name IsShortName
+standard_name_is_short None plain = tt
+standard_name_is_short (Some name) plain =
+    let here = and_parts (all_plain name) (nat_le (length name) 32) plain in
+    record { bytes = plain_are_bytes name here.0; short = leb-true (length name) 32 here.1 }
+
+-- one of some bytes is a byte
+one_of_bytes : (bytes : List ℕ) (byte : ℕ) → AreBytes bytes → list_any (nat_eq byte) bytes ≡ true → byte < 256
+one_of_bytes [] byte small among = absurd (cc among)
+one_of_bytes (b ∷ bytes) byte small among =
+    elim (cases_Bool (nat_eq byte b)) [
+      | inl is ↦ (let first : b < 256 = small.0 in omega (arith, eqb-true byte b is, first))
+      | inr other ↦ one_of_bytes bytes byte small.1 (simp other at among)
+    ]
+
+name_is_bytes : (name : List ℕ) → list_all is_name_byte name ≡ true → AreBytes name
+name_is_bytes [] test = tt
+name_is_bytes (byte ∷ name) test =
+    let here = and_parts (is_name_byte byte) (list_all is_name_byte name) test in (
+      one_of_bytes name_characters byte (plain_are_bytes name_characters refl) here.0,
+      name_is_bytes name here.1,
+    )
+
+name_is_short : (name : List ℕ) → is_name name ≡ true → IsShortName name
+name_is_short name is =
+    let parts = and_parts (nat_le 1 (length name) && nat_le (length name) 32) (list_all is_name_byte name) is in
+    let lengths = and_parts (nat_le 1 (length name)) (nat_le (length name) 32) parts.0 in
+    record { bytes = name_is_bytes name parts.1; short = leb-true (length name) 32 lengths.1 }
+
+first_of : (b : Bool) (bit : NamedBit) (rest : Option NamedBit) → IsShortName bit.name
+    → IfSome (option_map (λ x. x.name) rest) IsShortName
+    → IfSome (option_map (λ x. x.name) (cond b (Some bit) rest)) IsShortName
+first_of true bit rest here there = here
+first_of false bit rest here there = there
+
+profile_name_is_short : (bits : List NamedBit) (bit : ℕ) → AreNamed bits → IfSome (name_of_bit bit bits) IsShortName
+profile_name_is_short [] bit are = tt
+profile_name_is_short (b ∷ bits) bit are =
+    first_of (nat_eq b.bit bit) b (find (λ x. nat_eq x.bit bit) bits) (name_is_short b.name are.0)
+    (profile_name_is_short bits bit are.1)
+
+either_is_short : (name other : Option (List ℕ)) → IfSome name IsShortName → IfSome other IsShortName
+    → IfSome (or_name name other) IsShortName
+either_is_short None other first second = second
+either_is_short (Some name) other first second = first
+
+bit_name_is_short : (bits : List NamedBit) (register bit : ℕ) → AreNamed bits
+    → IfSome (bit_text_in bits register bit) IsShortName
+bit_name_is_short bits register bit are =
+    either_is_short (name_of_bit bit bits) (bit_text register bit) (profile_name_is_short bits bit are)
+    (standard_name_is_short (bit_text register bit) (bit_text_is_plain register bit))
+
 -- what stands for a bit without a name
 pub bit_number : (bit digit : ℕ) → bit < 8 → digit ≡ 48 + bit
     → codes "bit" ++ (digit ∷ []) ≡ codes "bit" ++ decimal bit
 bit_number bit digit less is =
     ap (λ (t : List ℕ). codes "bit" ++ t) (ap (λ (d : ℕ). d ∷ []) is ∙ sym (decimal_digit bit (omega arith)))
 
--- a name of a bit that is bytes, and short
-record IsShortName (name : List ℕ) : Type 0 where
-  bytes : AreBytes name
-  short : length name ≤ 17
-
-named_bit_is_short : (name : Option (List ℕ)) (bit : ℕ) → is_plain_name name ≡ true → bit < 8
+named_bit_is_short : (name : Option (List ℕ)) (bit : ℕ) → IfSome name IsShortName → bit < 8
     → IsShortName (named_bit name bit)
-named_bit_is_short (Some name) bit plain less =
-    let here = and_parts (all_plain name) (nat_le (length name) 17) plain in
-    record { bytes = plain_are_bytes name here.0; short = leb-true (length name) 17 here.1 }
-named_bit_is_short None bit plain less =
+named_bit_is_short (Some name) bit is less = is
+named_bit_is_short None bit is less =
     subst (λ (t : List ℕ). IsShortName (codes "bit" ++ t)) (sym (decimal_digit bit (omega arith)))
     (record {
       bytes = (omega arith, (omega arith, (omega arith, (omega arith, tt))));
@@ -200,42 +258,65 @@ record AreShortNames (names : List (List ℕ)) (most : ℕ) : Type 0 where
   room : words_room names ≤ most
 
 one_more : (b : Bool) (name : List ℕ) (names : List (List ℕ)) (most : ℕ) → IsShortName name → AreShortNames names most
-    → AreShortNames (cond b (name ∷ []) [] ++ names) (105 + most)
+    → AreShortNames (cond b (name ∷ []) [] ++ names) (195 + most)
 one_more true name names most here those = record {
   bytes = (here.bytes, those.bytes);
   room = omega (arith, here.short, those.room);
 }
 one_more false name names most here those = record { bytes = those.bytes; room = omega (arith, those.room) }
 
-set_names_are_short : (register bits many : ℕ) → many ≤ 8 → AreShortNames (set_names register bits many) (105 * many)
-set_names_are_short register bits zero few = record { bytes = tt; room = omega arith }
-set_names_are_short register bits (suc many) few =
-    let same : 105 + 105 * many ≡ 105 * suc many = omega arith in
-    subst (λ (most : ℕ). AreShortNames (set_names register bits (suc many)) most) same
-    (one_more (is_set bits many) (named_bit (bit_text register many) many) (set_names register bits many) (105 * many)
-    (named_bit_is_short (bit_text register many) many (bit_text_is_plain register many) (omega arith))
-    (set_names_are_short register bits many (omega arith)))
+set_names_are_short : (bits : List NamedBit) → AreNamed bits → (register byte many : ℕ) → many ≤ 8
+    → AreShortNames (set_names bits register byte many) (195 * many)
+set_names_are_short bits are register byte zero few = record { bytes = tt; room = omega arith }
+set_names_are_short bits are register byte (suc many) few =
+    let same : 195 + 195 * many ≡ 195 * suc many = omega arith in
+    subst (λ (most : ℕ). AreShortNames (set_names bits register byte (suc many)) most) same
+    (one_more (is_set byte many) (named_bit (bit_text_in bits register many) many) (set_names bits register byte many)
+    (195 * many)
+    (named_bit_is_short (bit_text_in bits register many) many (bit_name_is_short bits register many are) (omega arith))
+    (set_names_are_short bits are register byte many (omega arith)))
+
+-- the names that an accepted profile gives the bits of a device's registers
+bits_are_named : (e : EntryParts) (bits : List NamedBit) → AllByRecursion (IsBit e) bits → AreNamed bits
+bits_are_named e [] all = tt
+bits_are_named e (b ∷ bits) all = (all.0.name, bits_are_named e bits all.1)
+
+command_bits_are_named : (found : Option CommandParts) → IfSome found IsCommand → AreNamed (named_bits found)
+command_bits_are_named None is = tt
+command_bits_are_named (Some c) is = bits_are_named c.entry c.bits is.bits.each
+
+pub device_names : (device : DeviceParts) → IsDevice device → AreRegisterNames (names_of device)
+device_names device is register =
+    command_bits_are_named (command_with register device.commands)
+    (All-find IsCommand (λ c. nat_eq c.entry.code register) device.commands is.commands)
+
+pub mask_names_have_room : (device : DeviceParts) → IsDevice device → (register byte : ℕ)
+    → words_room (mask_names (names_of device) register byte) ≤ 8 * 195
+mask_names_have_room device is register byte =
+    (set_names_are_short (names_of device register) (device_names device is register) register byte 8
+    (omega arith)).room
 
 -- ---- what bits say
 
-pub said_writable : (sense : Sense) (width n : ℕ) → is_wide_enough sense width ≡ true → is_plain_sense sense ≡ true
-    → n < 2 ^ width → width ≤ 24 → IsWritable (value_json (said sense width n))
-said_writable flag width n wide plain fits few = tt
-said_writable signed width n wide plain fits few =
+pub said_writable : (names : RegisterNames) → AreRegisterNames names → (sense : Sense) (width n : ℕ)
+    → is_wide_enough sense width ≡ true → is_plain_sense sense ≡ true
+    → n < 2 ^ width → width ≤ 24 → IsWritable (value_json names (said sense width n))
+said_writable names are flag width n wide plain fits few = tt
+said_writable names are signed width n wide plain fits few =
     signed_number (twos_complement width n)
     (small_complement width n (leb-true width 16 (and_parts (nat_le 1 width) (nat_le width 16) wide).1) fits)
-said_writable (number_or names) width n wide plain fits few =
+said_writable names are (number_or values) width n wide plain fits few =
     let most : 2 ^ width ≤ 2 ^ 24 = pow_mono few in
     let small : n < 2 ^ 64 = omega (arith, most, fits) in
-    named_all (λ v. IsWritable (value_json v)) names n (number (pos n)) (named_are_writable names plain)
+    named_all (λ v. IsWritable (value_json names v)) values n (number (pos n)) (named_are_writable names values plain)
     (signed_number (pos n) small)
-said_writable (choice names) width n wide plain fits few =
-    named_all (λ v. IsWritable (value_json v)) names n (word (codes "reserved")) (named_are_writable names plain)
-    (plain_are_bytes (codes "reserved") refl)
-said_writable command_code width n wide plain fits few = hex_are_bytes (n % 256 ∷ [])
-said_writable mask width n wide plain fits few =
-    texts_are_writable (set_names (n % 256) (n / 256 % 256) 8)
-    (set_names_are_short (n % 256) (n / 256 % 256) 8 (omega arith)).bytes
+said_writable names are (choice values) width n wide plain fits few =
+    named_all (λ v. IsWritable (value_json names v)) values n (word (codes "reserved"))
+    (named_are_writable names values plain) (plain_are_bytes (codes "reserved") refl)
+said_writable names are command_code width n wide plain fits few = hex_are_bytes (n % 256 ∷ [])
+said_writable names are mask width n wide plain fits few =
+    texts_are_writable (mask_names names (n % 256) (n / 256 % 256))
+    (set_names_are_short (names (n % 256)) (are (n % 256)) (n % 256) (n / 256 % 256) 8 (omega arith)).bytes
 
 -- ---- and how much room it takes
 
@@ -256,6 +337,4 @@ said_has_room (choice names) width n =
     named_all (λ v. said_room v ≤ max 70 (names_room names)) names n (word (codes "reserved"))
     (names_have_room names (max 70 (names_room names)) (omega arith)) (omega arith)
 said_has_room command_code width n = omega arith
-said_has_room mask width n =
-    let short = (set_names_are_short (n % 256) (n / 256 % 256) 8 (omega arith)).room in
-    omega (arith, short)
+said_has_room mask width n = omega arith

@@ -2,7 +2,6 @@
 use Rattle.std.specs.Prelude.{ℕ, ℤ, Bool, List, [], ◌∷◌, map}
 use Rattle.std.specs.Borrow.{Bor}
 use Rattle.arrayvec.specs.ArrayVec.{ArrayVec}
-use Rattle.pmb_meaning.specs.Names.{set_names}
 use Rattle.pmb_meaning.specs.declared.field.Field.{Field}
 use Rattle.pmb_meaning.specs.declared.field.Value.{Value}
 use Rattle.pmb_meaning.specs.declared.field.Value.TheVariants.{Word, Number, Truth, Words, Bits, Code, Bytes}
@@ -12,6 +11,8 @@ pub data Said : Type 0 where
   number : ℤ → Said
   truth : Bool → Said
   words : List (List ℕ) → Said
+  -- the bits that a byte has of the status register with a code
+  masked : ℕ → ℕ → Said
   hex : List ℕ → Said
 
 pub record SaidField : Type 0 where
@@ -31,7 +32,7 @@ value_parts (Word text) = word text.now
 value_parts (Number n) = number n
 value_parts (Truth holds) = truth holds
 value_parts (Words names) = words (texts names.now)
-value_parts (Bits register mask) = words (set_names register mask 8)
+value_parts (Bits register mask) = masked register mask
 value_parts (Code byte) = hex (byte ∷ [])
 value_parts (Bytes all) = hex all.now
 

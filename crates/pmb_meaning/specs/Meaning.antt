@@ -2,13 +2,14 @@
 use Rattle.std.specs.Prelude.{ℕ, pos, ◌+◌, ◌*◌, ◌/◌, ◌%◌, ◌^◌, ◌==◌, ◌&&◌, nat_le, Bool, true, false}
 use Rattle.std.specs.Prelude.{if◌then◌else◌, Option, Some, None, List, [], ◌∷◌, ◌++◌, length, codes, find, flat_map}
 use Rattle.std.specs.Prelude.{option_map, unwrap_or}
+use Rattle.pmb_command.specs.Entry.{EntryParts}
+use Rattle.pmb_command_data.specs.Standard.{is_plain_standard}
 use Rattle.pmb_format.specs.Words.{twos_complement}
 use Rattle.std.specs.List.{list_any}
-use Rattle.pmb_meaning.specs.Names.{set_names}
-use Rattle.pmb_meaning.specs.Field.{Said, word, number, truth, words, hex, SaidField, field}
+use Rattle.pmb_meaning.specs.Field.{Said, word, number, truth, masked, hex, SaidField, field}
 use Rattle.pmb_meaning.specs.Data.{Exchange, written, read, sent, called, bytes_of}
-use Rattle.pmb_meaning.specs.Layout.{NamedValue, Sense, flag, signed, number_or, choice, command_code, mask, Condition, always}
-use Rattle.pmb_meaning.specs.Layout.{among, FieldRow, CommandLayout}
+use Rattle.pmb_meaning.specs.Layout.{NamedValue, Sense, flag, signed, number_or, choice, command_code, mask}
+use Rattle.pmb_meaning.specs.Layout.{Condition, always, among, FieldRow, CommandLayout}
 use Rattle.pmb_meaning.specs.Tables.{layouts, page_and_code}
 use Rattle.pmb_meaning.specs.declared.layout.Way.{Way}
 use Rattle.pmb_meaning.specs.declared.layout.Way.TheVariants.{Register, Written, Read, Sent, Called}
@@ -37,7 +38,7 @@ said signed width n = number (twos_complement width n)
 said (number_or names) width n = unwrap_or (named names n) (number (pos n))
 said (choice names) width n = unwrap_or (named names n) (word (codes "reserved"))
 said command_code width n = hex (n % 256 ∷ [])
-said mask width n = words (set_names (n % 256) (n / 256 % 256) 8)
+said mask width n = masked (n % 256) (n / 256 % 256)
 
 abbrev pub applies : Condition → ℕ → Bool
 applies always n = true
@@ -127,3 +128,9 @@ fields_of code (read bytes) = table_fields code (read bytes)
 fields_of code (sent bytes) = table_fields code (sent bytes)
 fields_of code (called first reply) =
     if code == 0x06 then page_plus_called first reply else table_fields code (called first reply)
+
+-- ---- a command of a device
+
+-- the fields of its data, where it is the standard's and its data are bytes
+abbrev pub said_fields : EntryParts → Exchange → Option (List SaidField)
+said_fields e payload = if is_plain_standard e then fields_of e.code payload else None

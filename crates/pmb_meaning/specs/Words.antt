@@ -2,9 +2,14 @@
 use Rattle.std.specs.Prelude.{ℕ, Bool, true, false, Option, Some, None, List, [], ◌∷◌, ◌++◌, codes, map}
 use Rattle.std.specs.Fmt.{signed_decimal}
 use Rattle.hex.specs.Hex.{encode_lower}
+use Rattle.pmb_command.specs.Entry.{EntryParts}
+use Rattle.pmb_command.specs.Parts.{DeviceParts}
 use Rattle.pmb_json_text.specs.declared.item_order.ItemOrder.{ItemOrder}
 use Rattle.pmb_json_text.specs.declared.item_order.ItemOrder.TheVariants.{First, Later}
-use Rattle.pmb_meaning.specs.Field.{Said, word, number, truth, words, hex, SaidField}
+use Rattle.pmb_meaning.specs.Data.{Exchange}
+use Rattle.pmb_meaning.specs.Field.{Said, word, number, truth, words, masked, hex, SaidField}
+use Rattle.pmb_meaning.specs.Meaning.{said_fields}
+use Rattle.pmb_meaning.specs.Names.{RegisterNames, mask_names, names_of}
 
 -- a text before each but the first
 abbrev pub between : List ℕ → ItemOrder → List ℕ
@@ -29,22 +34,28 @@ abbrev pub truth_text : Bool → List ℕ
 truth_text true = codes "true"
 truth_text false = codes "false"
 
-abbrev pub value_text : Said → List ℕ
-value_text (word text) = text
-value_text (number n) = signed_decimal n
-value_text (truth holds) = truth_text holds
-value_text (words names) = listed names
-value_text (hex all) = listed (byte_texts all)
+abbrev pub value_text : RegisterNames → Said → List ℕ
+value_text names (word text) = text
+value_text names (number n) = signed_decimal n
+value_text names (truth holds) = truth_text holds
+value_text names (words texts) = listed texts
+value_text names (masked register byte) = listed (mask_names names register byte)
+value_text names (hex all) = listed (byte_texts all)
 
 -- a name, a blank and its value, with a comma and a blank before each but the first
-abbrev pub field_words : ItemOrder → SaidField → List ℕ
-field_words place f = between (codes ", ") place ++ (f.key ++ (codes " " ++ value_text f.value))
+abbrev pub field_words : RegisterNames → ItemOrder → SaidField → List ℕ
+field_words names place f =
+    between (codes ", ") place ++ (f.key ++ (codes " " ++ value_text names f.value))
 
-abbrev pub fields_words : ItemOrder → List SaidField → List ℕ
-fields_words place [] = []
-fields_words place (f ∷ more) = field_words place f ++ fields_words Later more
+abbrev pub fields_words : RegisterNames → ItemOrder → List SaidField → List ℕ
+fields_words names place [] = []
+fields_words names place (f ∷ more) = field_words names place f ++ fields_words names Later more
 
 -- nothing if there are no fields
-abbrev pub says_words : Option (List SaidField) → List ℕ
-says_words None = []
-says_words (Some fields) = fields_words First fields
+abbrev pub says_words : RegisterNames → Option (List SaidField) → List ℕ
+says_words names None = []
+says_words names (Some fields) = fields_words names First fields
+
+-- what is said of the data of a device's command
+abbrev pub says_words_of : DeviceParts → EntryParts → Exchange → List ℕ
+says_words_of device e payload = says_words (names_of device) (said_fields e payload)

@@ -4,9 +4,10 @@
 
 ghost use Rattle.std.specs.Prelude.{◌≡◌, ◌≤◌, ◌&&◌, ◌==◌, IfSome, IsTrue, find, length, map, option_map};
 ghost use Rattle.std.specs.Option.{option_copied};
+ghost use Rattle.pmb_command.specs.Entry.{entry_parts};
 ghost use Rattle.pmb_meaning.specs.Data.{bytes_of, called, exchange, written};
 ghost use Rattle.pmb_meaning.specs.Field.{fields_parts};
-ghost use Rattle.pmb_meaning.specs.Meaning.{fields_of, layout_of, number_of, page_plus, page_plus_called, page_plus_written, table_fields, takes, takes_called, takes_read, takes_sent, takes_written};
+ghost use Rattle.pmb_meaning.specs.Meaning.{fields_of, layout_of, number_of, page_plus, page_plus_called, page_plus_written, said_fields, table_fields, takes, takes_called, takes_read, takes_sent, takes_written};
 ghost use Rattle.pmb_meaning.specs.machine.Rows.{layout_parts};
 ghost use Rattle.pmb_meaning.specs.machine.Sound.{AreSound, is_sound_layout};
 ghost use Rattle.pmb_meaning.specs.Tables.{layouts};
@@ -18,6 +19,8 @@ use crate::payload::Payload;
 use crate::rows::rows_fields;
 use crate::tables::{layouts, page_and_code};
 use arrayvec::ArrayVec;
+use pmb_command::Entry;
+use pmb_command_data::is_plain_standard;
 
 const PAGE_PLUS_WRITE: u8 = 0x05;
 
@@ -37,12 +40,26 @@ pub fn fields<'a>(code: u8, payload: &Payload<'a>) -> Option<ArrayVec<Field<'a>,
     }
 }
 
+/// The fields of the data of a command, if it is the standard's and its data are bytes.
+fn said_fields<'a>(entry: &Entry, payload: &Payload<'a>) -> Option<ArrayVec<Field<'a>, 6>>
+    ensures { option_map fields_parts result ≡ said_fields (entry_parts entry.now) (exchange payload.now) }
+{
+    if is_plain_standard(entry) {
+        fields(entry.code, payload)
+    } else {
+        None
+    }
+}
+
 /// The same, and how they are told: with distinct keys, and in few bytes.
-pub(crate) fn sound_fields<'a>(code: u8, payload: &Payload<'a>) -> Option<ArrayVec<Field<'a>, 6>>
-    ensures fields { option_map fields_parts result ≡ fields_of code (exchange payload.now) }
+pub(crate) fn sound_fields<'a>(
+    entry: &Entry,
+    payload: &Payload<'a>,
+) -> Option<ArrayVec<Field<'a>, 6>>
+    ensures fields { option_map fields_parts result ≡ said_fields (entry_parts entry.now) (exchange payload.now) }
     ensures sound { IfSome result (λ all. AreSound (fields_parts all)) }
 {
-    fields(code, payload)
+    said_fields(entry, payload)
 }
 
 /// The fields of data that are written.

@@ -32,8 +32,8 @@ pub(crate) enum Condition {
     Among(u8, u8, &'static [u8]),
 }
 
-/// A field: its name, its lowest bit, how many bits it has, what they say, and when there is the field.
-/// The bits of the first byte are 0 to 7, those of the second 8 to 15, and so on.
+/// A field: its name, its lowest bit, how many bits it has, what they say, and when there is the
+/// field. The bits of the first byte are 0 to 7, those of the second 8 to 15, and so on.
 #[derive(Clone, Copy)]
 pub(crate) struct Row(
     pub(crate) &'static str,

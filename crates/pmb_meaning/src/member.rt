@@ -4,13 +4,14 @@
 
 ghost use Rattle.std.specs.Prelude.{◌≡◌, ◌+◌, ◌≤◌, ◌++◌, ◌∷◌, [], IsTrue, Some, length, map};
 ghost use Rattle.std.specs.Fmt.{signed_decimal};
+ghost use Rattle.pmb_command.specs.Entry.{entry_parts};
 ghost use Rattle.pmb_json_text.specs.declared.item_order.ItemOrder.TheVariants.{First, Later};
 ghost use Rattle.pmb_json_text.specs.Json.{number as number_value, string};
 ghost use Rattle.pmb_json_text.specs.Member.{AreWritable, array_of, is_key, items_text, members_text, named};
 ghost use Rattle.pmb_meaning.specs.Data.{exchange};
 ghost use Rattle.pmb_meaning.specs.Field.{all_parts, field_parts, texts, value_parts};
-ghost use Rattle.pmb_meaning.specs.Meaning.{fields_of};
-ghost use Rattle.pmb_meaning.specs.Object.{field_member, field_members, says_members};
+ghost use Rattle.pmb_meaning.specs.Names.{names_of};
+ghost use Rattle.pmb_meaning.specs.Object.{field_member, field_members, says_members, says_members_of};
 ghost use Rattle.pmb_meaning.specs.machine.Room.{fields_room, said_room, words_room};
 ghost use Rattle.pmb_meaning.specs.machine.Sound.{have_keys};
 
@@ -21,59 +22,84 @@ use crate::payload::Payload;
 use crate::text::append;
 use arrayvec::ArrayVec;
 use itoa::Buffer;
+use pmb_command::Entry;
 use pmb_json_text::{
     ItemOrder, begin_array, bool_member, end_array, hex_member, number_text_member, text_item,
     text_member,
 };
+use pmb_table::DeviceProfile;
+use pmb_table::laws::accepted_device;
 
 /// The most bytes that [`says_member`] appends.
-pub const SAYS_MEMBER: usize = 910;
+pub const SAYS_MEMBER: usize = 1630;
 
-/// Appends the fields of a command's data to an object that has members already, as the object `says`:
-/// `,"says":{"supported":false}`. Nothing is appended where [`fields`](crate::fields) gives none.
-pub fn says_member<const N: usize>(out: &mut ArrayVec<u8, N>, code: u8, payload: &Payload<'_>)
+/// Appends the fields of a command's data to an object that has members already, as the object
+/// `says`: `,"says":{"supported":false}`. Nothing is appended where the command is not the
+/// standard's or its data are more than bytes, nor where [`fields`](crate::fields) gives none. Bits
+/// of a status register have the names that the profile of the device gives them, or else the
+/// standard's.
+pub fn says_member<const N: usize>(
+    out: &mut ArrayVec<u8, N>,
+    device: &DeviceProfile,
+    entry: &Entry,
+    payload: &Payload<'_>,
+)
     requires room { length out.old.items + SAYS_MEMBER ≤ N }
-    ensures member { out.new.items ≡ out.old.items ++ members_text Later (says_members (fields_of code (exchange payload.now))) }
+    ensures member { out.new.items ≡ out.old.items ++ members_text Later (says_members_of device.now (entry_parts entry.now) (exchange payload.now)) }
     ensures short { length out.new.items ≤ length out.old.items + SAYS_MEMBER }
-    ensures writable { AreWritable (says_members (fields_of code (exchange payload.now))) }
+    ensures writable { AreWritable (says_members_of device.now (entry_parts entry.now) (exchange payload.now)) }
 {
-    match sound_fields(code, payload) {
-        Some(fields) => append_object(out, fields.as_slice()),
+    accepted_device(device);
+    match sound_fields(entry, payload) {
+        Some(fields) => append_object(out, device, fields.as_slice()),
         None => {}
     }
 }
 
 /// Appends the object of some fields.
-fn append_object<const N: usize>(out: &mut ArrayVec<u8, N>, fields: &[Field<'_>])
+fn append_object<const N: usize>(
+    out: &mut ArrayVec<u8, N>,
+    device: &DeviceProfile,
+    fields: &[Field<'_>],
+)
     requires keys { IsTrue (have_keys (all_parts fields.now)) }
     requires room { length out.old.items + (fields_room (all_parts fields.now) + 10) ≤ N }
-    ensures member { out.new.items ≡ out.old.items ++ members_text Later (says_members (Some (all_parts fields.now))) }
+    ensures member { out.new.items ≡ out.old.items ++ members_text Later (says_members (names_of device.now) (Some (all_parts fields.now))) }
     ensures short { length out.new.items ≤ length out.old.items + (fields_room (all_parts fields.now) + 10) }
 {
     append(out, b",\"says\":{");
-    append_members(out, fields);
+    append_members(out, device, fields);
     append(out, b"}");
 }
 
 /// Appends some fields to an object that has no members so far.
-fn append_members<const N: usize>(out: &mut ArrayVec<u8, N>, fields: &[Field<'_>])
+fn append_members<const N: usize>(
+    out: &mut ArrayVec<u8, N>,
+    device: &DeviceProfile,
+    fields: &[Field<'_>],
+)
     requires keys { IsTrue (have_keys (all_parts fields.now)) }
     requires room { length out.old.items + fields_room (all_parts fields.now) ≤ N }
-    ensures members { out.new.items ≡ out.old.items ++ members_text First (field_members (all_parts fields.now)) }
+    ensures members { out.new.items ≡ out.old.items ++ members_text First (field_members (names_of device.now) (all_parts fields.now)) }
     ensures short { length out.new.items ≤ length out.old.items + fields_room (all_parts fields.now) }
 {
     let mut place = ItemOrder::First;
     for field in fields {
-        append_field(out, place, field);
+        append_field(out, device, place, field);
         place = ItemOrder::Later;
     }
 }
 
 /// Appends a field.
-fn append_field<const N: usize>(out: &mut ArrayVec<u8, N>, place: ItemOrder, field: &Field<'_>)
+fn append_field<const N: usize>(
+    out: &mut ArrayVec<u8, N>,
+    device: &DeviceProfile,
+    place: ItemOrder,
+    field: &Field<'_>,
+)
     requires key { IsTrue (is_key field.now.key.now) }
     requires room { length out.old.items + said_room (value_parts field.now.value) ≤ N }
-    ensures member { out.new.items ≡ out.old.items ++ members_text place (field_member (field_parts field.now) ∷ []) }
+    ensures member { out.new.items ≡ out.old.items ++ members_text place (field_member (names_of device.now) (field_parts field.now) ∷ []) }
     ensures short { length out.new.items ≤ length out.old.items + said_room (value_parts field.now.value) }
 {
     match field.value {
@@ -82,7 +108,8 @@ fn append_field<const N: usize>(out: &mut ArrayVec<u8, N>, place: ItemOrder, fie
         Value::Truth(holds) => bool_member(out, place, field.key, holds),
         Value::Words(names) => append_array(out, place, field.key, names),
         Value::Bits(register, mask) => {
-            append_array(out, place, field.key, bit_names(register, mask).as_slice());
+            let names = bit_names(device, register, mask);
+            append_array(out, place, field.key, names.as_slice());
         }
         Value::Code(code) => hex_member(out, place, field.key, &[code]),
         Value::Bytes(bytes) => hex_member(out, place, field.key, bytes),

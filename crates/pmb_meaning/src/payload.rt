@@ -1,7 +1,7 @@
 //! The data of a command, and how they go.
 
-/// The data of a command, and how they go. Blocks are without their counts, and nothing has a packet
-/// error code.
+/// The data of a command, and how they go. Blocks are without their counts, and nothing has a
+/// packet error code.
 #[derive(Clone, Copy, Debug)]
 pub enum Payload<'a> {
     /// They are written.

@@ -1,7 +1,7 @@
 //! The fields of the standard's commands (PMBus Part II 1.3), as `docs/meaning.md` has them.
 //!
-//! A row is a field's name, its lowest bit, how many bits it has, what they say, and when there is the
-//! field. The bits of the reply come after those that were sent.
+//! A row is a field's name, its lowest bit, how many bits it has, what they say, and when there is
+//! the field. The bits of the reply come after those that were sent.
 
 ghost use Rattle.std.specs.Prelude.{◌≡◌, IsTrue, length, map};
 ghost use Rattle.std.specs.List.{list_all};

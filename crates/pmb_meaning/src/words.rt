@@ -5,12 +5,14 @@
 ghost use Rattle.std.specs.Prelude.{◌≡◌, ◌+◌, ◌-◌, ◌*◌, ◌≤◌, ◌++◌, ◌∷◌, [], IsTrue, codes, is_some, length, map};
 ghost use Rattle.std.specs.Fmt.{signed_decimal};
 ghost use Rattle.hex.specs.Hex.{encode_lower};
+ghost use Rattle.pmb_command.specs.Entry.{entry_parts};
 ghost use Rattle.pmb_json_text.specs.declared.item_order.ItemOrder.TheVariants.{First};
 ghost use Rattle.pmb_json_text.specs.Member.{is_key};
 ghost use Rattle.pmb_meaning.specs.Data.{exchange};
 ghost use Rattle.pmb_meaning.specs.Field.{all_parts, field_parts, texts, value_parts};
-ghost use Rattle.pmb_meaning.specs.Meaning.{fields_of};
-ghost use Rattle.pmb_meaning.specs.Words.{between as between_text, byte_texts, field_words, fields_words, listed, says_words, spaced, truth_text, value_text};
+ghost use Rattle.pmb_meaning.specs.Meaning.{said_fields};
+ghost use Rattle.pmb_meaning.specs.Names.{names_of};
+ghost use Rattle.pmb_meaning.specs.Words.{between as between_text, byte_texts, field_words, fields_words, listed, says_words_of, spaced, truth_text, value_text};
 ghost use Rattle.pmb_meaning.specs.machine.Room.{fields_room, said_room, words_room};
 ghost use Rattle.pmb_meaning.specs.machine.Sound.{have_keys};
 
@@ -21,26 +23,30 @@ use crate::payload::Payload;
 use crate::text::append;
 use arrayvec::ArrayVec;
 use itoa::Buffer;
+use pmb_command::Entry;
 use pmb_json_text::ItemOrder;
+use pmb_table::DeviceProfile;
 
 /// The most bytes that [`says_words`] appends.
-pub const SAYS_WORDS: usize = 900;
+pub const SAYS_WORDS: usize = 1620;
 
-/// Appends the fields of a command's data in words, such as `relative false, mode linear, exponent -9`,
-/// and says whether there are some. Nothing is appended where [`fields`](crate::fields) gives none.
+/// Appends the fields of a command's data in words, such as
+/// `relative false, mode linear, exponent -9`, and returns whether there are some. Nothing is
+/// appended where [`says_member`](crate::says_member) appends nothing.
 pub fn says_words<const N: usize>(
     out: &mut ArrayVec<u8, N>,
-    code: u8,
+    device: &DeviceProfile,
+    entry: &Entry,
     payload: &Payload<'_>,
 ) -> bool
     requires room { length out.old.items + SAYS_WORDS ≤ N }
-    ensures words { out.new.items ≡ out.old.items ++ says_words (fields_of code (exchange payload.now)) }
+    ensures words { out.new.items ≡ out.old.items ++ says_words_of device.now (entry_parts entry.now) (exchange payload.now) }
     ensures short { length out.new.items ≤ length out.old.items + SAYS_WORDS }
-    ensures some { result ≡ is_some (fields_of code (exchange payload.now)) }
+    ensures some { result ≡ is_some (said_fields (entry_parts entry.now) (exchange payload.now)) }
 {
-    match sound_fields(code, payload) {
+    match sound_fields(entry, payload) {
         Some(fields) => {
-            append_fields(out, fields.as_slice());
+            append_fields(out, device, fields.as_slice());
             true
         }
         None => false,
@@ -48,36 +54,49 @@ pub fn says_words<const N: usize>(
 }
 
 /// Appends some fields.
-fn append_fields<const N: usize>(out: &mut ArrayVec<u8, N>, fields: &[Field<'_>])
+fn append_fields<const N: usize>(
+    out: &mut ArrayVec<u8, N>,
+    device: &DeviceProfile,
+    fields: &[Field<'_>],
+)
     requires keys { IsTrue (have_keys (all_parts fields.now)) }
     requires room { length out.old.items + fields_room (all_parts fields.now) ≤ N }
-    ensures words { out.new.items ≡ out.old.items ++ fields_words First (all_parts fields.now) }
+    ensures words { out.new.items ≡ out.old.items ++ fields_words (names_of device.now) First (all_parts fields.now) }
     ensures short { length out.new.items ≤ length out.old.items + fields_room (all_parts fields.now) }
 {
     let mut place = ItemOrder::First;
     for field in fields {
-        append_field(out, place, field);
+        append_field(out, device, place, field);
         place = ItemOrder::Later;
     }
 }
 
 /// Appends a field.
-fn append_field<const N: usize>(out: &mut ArrayVec<u8, N>, place: ItemOrder, field: &Field<'_>)
+fn append_field<const N: usize>(
+    out: &mut ArrayVec<u8, N>,
+    device: &DeviceProfile,
+    place: ItemOrder,
+    field: &Field<'_>,
+)
     requires key { IsTrue (is_key field.now.key.now) }
     requires room { length out.old.items + said_room (value_parts field.now.value) ≤ N }
-    ensures words { out.new.items ≡ out.old.items ++ field_words place (field_parts field.now) }
+    ensures words { out.new.items ≡ out.old.items ++ field_words (names_of device.now) place (field_parts field.now) }
     ensures short { length out.new.items ≤ length out.old.items + said_room (value_parts field.now.value) }
 {
     append_between(out, b", ", place);
     append(out, field.key.as_bytes());
     append(out, b" ");
-    append_value(out, &field.value);
+    append_value(out, device, &field.value);
 }
 
 /// Appends what a field says.
-fn append_value<const N: usize>(out: &mut ArrayVec<u8, N>, value: &Value<'_>)
+fn append_value<const N: usize>(
+    out: &mut ArrayVec<u8, N>,
+    device: &DeviceProfile,
+    value: &Value<'_>,
+)
     requires { length out.old.items + (said_room (value_parts value.now) - 19) ≤ N }
-    ensures text { out.new.items ≡ out.old.items ++ value_text (value_parts value.now) }
+    ensures text { out.new.items ≡ out.old.items ++ value_text (names_of device.now) (value_parts value.now) }
     ensures short { length out.new.items ≤ length out.old.items + (said_room (value_parts value.now) - 19) }
 {
     match *value {
@@ -86,7 +105,10 @@ fn append_value<const N: usize>(out: &mut ArrayVec<u8, N>, value: &Value<'_>)
         Value::Truth(true) => append(out, b"true"),
         Value::Truth(false) => append(out, b"false"),
         Value::Words(names) => append_names(out, names),
-        Value::Bits(register, mask) => append_names(out, bit_names(register, mask).as_slice()),
+        Value::Bits(register, mask) => {
+            let names = bit_names(device, register, mask);
+            append_names(out, names.as_slice());
+        }
         Value::Code(code) => append_bytes(out, &[code]),
         Value::Bytes(bytes) => append_bytes(out, bytes),
     }

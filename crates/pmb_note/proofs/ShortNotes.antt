@@ -29,7 +29,7 @@ use Rattle.pmb_command.specs.Names.{is_name_byte, IsNameOf}
 use Rattle.pmb_command.specs.Parts.{CommandParts, DeviceParts, command_with, device_with}
 use Rattle.pmb_command.specs.StatusBits.{bit_text}
 use Rattle.pmb_command.specs.declared.entry.Kind.{Kind}
-use Rattle.pmb_command.specs.declared.entry.Kind.TheVariants.{Raw, Number, Vout, VoutSigned, Status}
+use Rattle.pmb_command.specs.declared.entry.Kind.TheVariants.{Raw, Number, Vout, VoutSigned, Status, Text}
 use Rattle.pmb_transaction.specs.Packet.{Packet}
 use Rattle.pmb_transaction.specs.Transaction.{PartData, TransactionData, Write, Read, Call, Refused, Alert, NoAlert}
 use Rattle.pmb_transaction.proofs.Known.{command_is, device_is}
@@ -237,6 +237,7 @@ short_data coefficients mode code Vout bytes = short_word (vout_text mode false 
 short_data coefficients mode code VoutSigned bytes = short_word (vout_text mode true coefficients) bytes
     (short_vout mode true coefficients)
 short_data coefficients mode code Status bytes = short_status code bytes
+short_data coefficients mode code Text bytes = none 288
 
 name_byte_no_lf : (b : ℕ) → is_name_byte b ≡ true → not (b == 10) ≡ true
 name_byte_no_lf b is = elim (cases_Bool (b == 10)) [

@@ -14,7 +14,7 @@ use Rattle.pmb_value.specs.declared.number_format.WordFault.{WordFault}
 use Rattle.pmb_value.specs.declared.vout.ModeFault.{ModeFault}
 use Rattle.pmb_value.specs.declared.vout.VoutFormat.{VoutFormat}
 use Rattle.pmb_command.specs.declared.entry.Kind.{Kind}
-use Rattle.pmb_command.specs.declared.entry.Kind.TheVariants.{Raw, Number, Vout, VoutSigned, Status}
+use Rattle.pmb_command.specs.declared.entry.Kind.TheVariants.{Raw, Number, Vout, VoutSigned, Status, Text}
 use Rattle.pmb_command.specs.Entry.{EntryParts}
 use Rattle.pmb_command.specs.Parts.{CommandParts, DeviceParts, command_with, device_with}
 use Rattle.pmb_command.specs.StatusBits.{bit_text}
@@ -88,6 +88,7 @@ data_text coefficients mode code (Number format) bytes = of_word (number_text fo
 data_text coefficients mode code Vout bytes = of_word (vout_text mode false coefficients) bytes
 data_text coefficients mode code VoutSigned bytes = of_word (vout_text mode true coefficients) bytes
 data_text coefficients mode code Status bytes = status_text code bytes
+data_text coefficients mode code Text bytes = []
 
 -- a command that is written or read: its name, and what is said of its data
 abbrev pub value_text : Option ℕ → DeviceParts → EntryParts → List ℕ → List ℕ

@@ -109,7 +109,7 @@ impl<'p> Context<'p> {
     {
         match kind {
             Kind::Vout | Kind::VoutSigned => self.kept_mode(addr),
-            Kind::Raw | Kind::Number(_) | Kind::Status => None,
+            Kind::Raw | Kind::Number(_) | Kind::Status | Kind::Text => None,
         }
     }
 

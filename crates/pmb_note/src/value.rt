@@ -45,7 +45,7 @@ fn append_data<const N: usize>(
     ensures { Appends (data_text device.now.vout_direct mode code kind bytes.now) 288 out.old.items out.new.items }
 {
     match kind {
-        Kind::Raw => {}
+        Kind::Raw | Kind::Text => {}
         Kind::Number(format) => append_quantity(out, format, bytes),
         Kind::Vout => append_voltage(out, mode, Sign::Unsigned, device, bytes),
         Kind::VoutSigned => append_voltage(out, mode, Sign::Signed, device, bytes),

@@ -2,14 +2,13 @@
 use Rattle.std.specs.Prelude.{ℕ, ◌+◌, ◌*◌, Bool, true, false, if◌then◌else◌, Option, Some, None, Result, Ok, Err, List, [], ◌∷◌, ◌++◌, flat_map, fold}
 use Rattle.std.specs.List.{filter_map}
 use Rattle.pmb_command.specs.declared.entry.Kind.{Kind}
-use Rattle.pmb_command.specs.declared.entry.Kind.TheVariants.{Raw, Number, Vout, VoutSigned, Status}
-use Rattle.pmb_command.specs.Entry.{EntryParts}
-use Rattle.pmb_command.specs.Parts.{DeviceParts, device_with}
+use Rattle.pmb_command.specs.declared.entry.Kind.TheVariants.{Raw, Number, Vout, VoutSigned, Status, Text}
+use Rattle.pmb_command.specs.Parts.{CommandParts, DeviceParts, device_with}
 use Rattle.pmb_facts.specs.Fact.{FactData, WhatData, Write, Read, Call, Refused, Alert, NoAlert, Other, Refusal}
 use Rattle.pmb_facts.specs.Fact.{BadToken}
 use Rattle.pmb_json_fields.specs.declared.basis.Basis.{Basis}
 use Rattle.pmb_json_fields.specs.declared.basis.Basis.TheVariants.{Told, Assumed}
-use Rattle.pmb_json_objects.specs.Seen.{SeenData, basis_at, entry_of, mode_at, page_at}
+use Rattle.pmb_json_objects.specs.Seen.{SeenData, basis_at, command_of, mode_at, page_at, phase_at}
 use Rattle.pmb_keeper.specs.Setting.{Setting, seen_after}
 use Rattle.pmb_mean.specs.Numbers.{NumberData}
 use Rattle.pmb_mean.specs.Words.{word_number as mean_number}
@@ -20,7 +19,7 @@ use Rattle.pmb_voltage.specs.declared.voltage.NoVoltage.{NoVoltage}
 use Rattle.pmb_voltage.specs.declared.voltage.VoltageFormat.{VoltageFormat}
 use Rattle.pmb_observed.specs.declared.spot.Spot.{Spot}
 use Rattle.pmb_observed.specs.Observed.{Observation, NumberAt, ReadAt}
-use Rattle.pmb_observed.specs.Spot.{page_key, spot_at}
+use Rattle.pmb_observed.specs.Spot.{page_key, phase_key, phases_of, spot_at}
 
 -- ---- numbers
 
@@ -41,6 +40,7 @@ word_number voltages basis code (Number format) word = mean_number format word f
 word_number voltages basis code Vout word = voltage_in (voltage_format voltages code Unsigned) basis word
 word_number voltages basis code VoutSigned word = voltage_in (voltage_format voltages code Signed) basis word
 word_number voltages basis code Status word = None
+word_number voltages basis code Text word = None
 
 -- two bytes, the low one first; nothing for another number of bytes
 abbrev pub number_of : VoltagesData → Basis → ℕ → Kind → List ℕ → Option NumberData
@@ -68,6 +68,7 @@ register_read (Number format) bytes time = None
 register_read Vout bytes time = None
 register_read VoutSigned bytes time = None
 register_read Status bytes time = register_of bytes time
+register_read Text bytes time = None
 
 -- ---- what is told
 
@@ -80,38 +81,41 @@ read_at spot None = []
 read_at spot (Some read) = ReadAt spot read ∷ []
 
 module _ (seen : SeenData) (addr code : ℕ) where
-  -- the spot of a command of a device, on the page that is selected
-  abbrev pub spot_of : DeviceParts → EntryParts → Spot
-  spot_of device entry = spot_at addr code (page_key device.pages entry.paged (page_at seen addr))
+  -- the spot of a command of a device, on the page and in the phase that are selected
+  abbrev pub spot_of : DeviceParts → CommandParts → Spot
+  spot_of device command =
+      spot_at addr code (page_key device.pages command.entry.paged (page_at seen addr))
+      (phase_key (phases_of device command) (phase_at seen addr))
 
   -- data that are read or written
-  abbrev pub number_seen : DeviceParts → EntryParts → List ℕ → List Observation
-  number_seen device entry bytes = number_at (spot_of device entry)
-      (number_of (voltages_of device (mode_at seen addr) (page_at seen addr)) (basis_at seen addr) code entry.kind
-      bytes)
+  abbrev pub number_seen : DeviceParts → CommandParts → List ℕ → List Observation
+  number_seen device command bytes = number_at (spot_of device command)
+      (number_of (voltages_of device (mode_at seen addr) (page_at seen addr)) (basis_at seen addr) code
+      command.entry.kind bytes)
 
   -- .. that are read
-  abbrev pub register_seen : DeviceParts → EntryParts → List ℕ → Option (List ℕ) → List Observation
-  register_seen device entry bytes time = read_at (spot_of device entry) (register_read entry.kind bytes time)
+  abbrev pub register_seen : DeviceParts → CommandParts → List ℕ → Option (List ℕ) → List Observation
+  register_seen device command bytes time =
+      read_at (spot_of device command) (register_read command.entry.kind bytes time)
 
   -- of a device and its command, if there are both
-  abbrev pub of_command : DeviceParts → Option EntryParts → (DeviceParts → EntryParts → List Observation)
+  abbrev pub of_command : DeviceParts → Option CommandParts → (DeviceParts → CommandParts → List Observation)
       → List Observation
   of_command device None tells = []
-  of_command device (Some entry) tells = tells device entry
+  of_command device (Some command) tells = tells device command
 
-  abbrev pub of_device : Option DeviceParts → (DeviceParts → EntryParts → List Observation) → List Observation
+  abbrev pub of_device : Option DeviceParts → (DeviceParts → CommandParts → List Observation) → List Observation
   of_device None tells = []
-  of_device (Some device) tells = of_command device (entry_of (Some device) code) tells
+  of_device (Some device) tells = of_command device (command_of (Some device) code) tells
 
   -- data that were written
   abbrev pub written : List ℕ → List Observation
-  written bytes = of_device (device_with addr seen.profile) (λ device entry. number_seen device entry bytes)
+  written bytes = of_device (device_with addr seen.profile) (λ device command. number_seen device command bytes)
 
   -- data that were read: a status register or a number
   abbrev pub replied : List ℕ → Option (List ℕ) → List Observation
   replied bytes time = of_device (device_with addr seen.profile)
-      (λ device entry. register_seen device entry bytes time ++ number_seen device entry bytes)
+      (λ device command. register_seen device command bytes time ++ number_seen device command bytes)
 
 -- what a fact tells, by what is known where its packet begins, and its time
 abbrev pub observed : SeenData → Option (List ℕ) → WhatData → List Observation

@@ -1,6 +1,6 @@
 //! What data belong to.
 //!
-//! Its rows: `tests/rows/stats.txt`, pages.
+//! Its rows: `tests/rows/stats.txt`, pages and phases.
 
 /// The page that data of a command belong to.
 #[derive(Clone, Copy)]
@@ -15,7 +15,20 @@ pub enum PageKey {
     Unpaged,
 }
 
-/// A command of a device, on a page.
+/// The phase that data of a command belong to.
+#[derive(Clone, Copy)]
+pub enum PhaseKey {
+    /// One of the device's, counted from 0.
+    OnPhase(u8),
+    /// All of them: PHASE was ffh.
+    AllPhases,
+    /// PHASE was not known, or the device has no such phase.
+    UnknownPhase,
+    /// None: the command has one value for all phases.
+    Unphased,
+}
+
+/// A command of a device, on a page, in a phase.
 #[derive(Clone, Copy)]
 pub struct Spot {
     /// The address of the device, of seven bits.
@@ -23,4 +36,5 @@ pub struct Spot {
     /// The command code.
     pub code: u8,
     pub page: PageKey,
+    pub phase: PhaseKey,
 }

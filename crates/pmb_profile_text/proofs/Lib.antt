@@ -1,3 +1,4 @@
 pub mod Commands
-pub mod Texts
+pub mod Names
 pub mod SomePage
+pub mod Texts

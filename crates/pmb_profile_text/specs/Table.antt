@@ -1,12 +1,13 @@
 -- The text of a bus: how many devices it has, the addresses that are ignored, and for each device its
 -- keys and a table of its commands.
-use Rattle.std.specs.Prelude.{ℕ, ◌+◌, ◌-◌, ◌*◌, Bool, false, not, ◌&&◌, if◌then◌else◌, Option, Some, None, List, []}
+use Rattle.std.specs.Prelude.{ℕ, ◌+◌, ◌-◌, ◌*◌, Bool, true, false, not, ◌&&◌, if◌then◌else◌, Option, Some, None, List, []}
 use Rattle.std.specs.Prelude.{◌∷◌, ◌++◌, bytes_eq, codes, decimal, length, nat_eq, replicate, slice_index}
 use Rattle.std.specs.List.{flat_map, list_all, list_any, range_with_len}
 use Rattle.std.specs.Option.{is_some}
 use Rattle.pmb_command.specs.declared.form.Form.{Form}
 use Rattle.pmb_command.specs.Fitting.{register_form}
-use Rattle.pmb_command.specs.Parts.{CommandParts, DeviceParts, VidParts, OfPages, OfTypes, all_same}
+use Rattle.pmb_command.specs.Parts.{CommandParts, DeviceParts, NamedBit, VidParts, OfPages, OfTypes, all_same}
+use Rattle.pmb_command.specs.Units.{standard_unit}
 use Rattle.pmb_registers.specs.State.{first_bytes, first_mode}
 use Rattle.pmb_profile_text.specs.Words.{addresses_word, bytes_word, digits, form_word, kind_word, mode_words}
 use Rattle.pmb_profile_text.specs.Words.{page_word, paged_word, pec_word, type_word, vout_direct_word}
@@ -101,6 +102,42 @@ command_rows device command =
     then flat_map (page_row device command) (range_with_len 0 device.pages)
     else command_row device command
 
+-- ---- what the data of a command mean
+
+-- a line under the kind of a command
+abbrev pub note_line : List ℕ → List ℕ
+note_line text = replicate 62 space ++ (text ++ codes "\n")
+
+-- whether the standard has this unit
+abbrev pub is_unit_of : List ℕ → Option (List ℕ) → Bool
+is_unit_of unit None = false
+is_unit_of unit (Some other) = bytes_eq unit other
+
+-- the unit of numbers, where it is another than that of the standard command with the code
+abbrev pub unit_line : ℕ → Option (List ℕ) → List ℕ
+unit_line code None = []
+unit_line code (Some unit) =
+    if is_unit_of unit (standard_unit code) then [] else note_line (codes "unit " ++ unit)
+
+-- a bit of a status register, and the name that the profile gives it
+abbrev pub bit_line : NamedBit → List ℕ
+bit_line b = note_line (codes "bit " ++ (decimal b.bit ++ (codes ": " ++ b.name)))
+
+-- that the profile says that there is a value for each phase
+abbrev pub phased_line : Bool → List ℕ
+phased_line true = note_line (codes "phased")
+phased_line false = []
+
+-- the lines of what the profile says of the data of a command
+abbrev pub meaning_lines : CommandParts → List ℕ
+meaning_lines command =
+    unit_line command.entry.code command.unit
+    ++ (flat_map bit_line command.bits ++ phased_line command.phased)
+
+-- the rows of a command and these lines
+abbrev pub command_text : DeviceParts → CommandParts → List ℕ
+command_text device command = command_rows device command ++ meaning_lines command
+
 -- ---- devices
 
 -- a line of a key and its value
@@ -181,12 +218,18 @@ vid_lines None = []
 vid_lines (Some (OfPages tables)) = page_tables tables
 vid_lines (Some (OfTypes tables)) = type_tables tables
 
+-- the number of phases, where the profile tells it
+abbrev pub phases_line : Option ℕ → List ℕ
+phases_line None = []
+phases_line (Some phases) = field (codes "phases") (decimal phases)
+
 -- the last keys of a device
 abbrev pub device_end : DeviceParts → List ℕ
 device_end device =
     field (codes "vout_direct") (vout_direct_word device.vout_direct)
     ++ (vid_lines device.vid
-    ++ field (codes "commands") (decimal (length device.commands)))
+    ++ (phases_line device.phases
+    ++ field (codes "commands") (decimal (length device.commands))))
 
 -- the keys of a device
 abbrev pub device_keys : ℕ → DeviceParts → List ℕ
@@ -194,7 +237,7 @@ device_keys place device = device_head place device ++ (mode_lines device ++ dev
 
 -- the table of its commands
 abbrev pub command_table : DeviceParts → List CommandParts → List ℕ
-command_table device commands = flat_map (command_rows device) commands
+command_table device commands = flat_map (command_text device) commands
 
 abbrev pub device_text : ℕ → DeviceParts → List ℕ
 device_text place device = device_keys place device ++ (heading ++ command_table device device.commands)

@@ -73,6 +73,7 @@ kind_word (kinds.Number format) = number_word format
 kind_word kinds.Vout = codes "vout"
 kind_word kinds.VoutSigned = codes "vout_signed"
 kind_word kinds.Status = codes "status"
+kind_word kinds.Text = codes "text"
 
 -- the coefficients of output voltages, where there are any
 abbrev pub vout_direct_word : Option Coefficients → List ℕ

@@ -3,7 +3,7 @@
 //! Its rows: `tests/rows/profile_text.txt`.
 
 ghost use Rattle.std.specs.Prelude.{◌≡◌, ◌+◌, ◌≤◌, ◌<◌, ◌++◌, codes, decimal, length};
-ghost use Rattle.pmb_profile_text.specs.Table.{address_text, device_end, device_head, field, name_line};
+ghost use Rattle.pmb_profile_text.specs.Table.{address_text, device_end, device_head, field, name_line, phases_line};
 ghost use Rattle.pmb_profile_text.specs.Words.{digits};
 
 use crate::row::{Row, append, append_byte, append_cell, append_number};
@@ -37,6 +37,7 @@ pub(crate) fn device_end(device: &DeviceProfile) -> Row
     let vout_direct = vout_direct_word(device.vout_direct());
     append_field(&mut end, b"vout_direct", vout_direct.as_slice());
     append_vid(&mut end, device);
+    append_phases(&mut end, device);
     append_count(&mut end, b"commands", device.len());
     end
 }
@@ -50,6 +51,18 @@ fn append_name(head: &mut Row, device: &DeviceProfile)
     accepted_device(device);
     match device.name() {
         Some(name) => append_field(head, b"name", name.as_bytes()),
+        None => {}
+    }
+}
+
+/// Appends the line of a device's phases, where the profile tells how many: at most 45 bytes.
+fn append_phases(end: &mut Row, device: &DeviceProfile)
+    requires { length end.old.items + 45 ≤ 2048 }
+    ensures text { end.new.items ≡ end.old.items ++ phases_line device.now.phases }
+    ensures short { length end.new.items ≤ length end.old.items + 45 }
+{
+    match device.phases() {
+        Some(phases) => append_count(end, b"phases", usize::from(phases)),
         None => {}
     }
 }

@@ -9,10 +9,11 @@ ghost use Rattle.pmb_io.specs.Outgoing.{PutsText};
 ghost use Rattle.pmb_command.specs.Bus.{IsEntry};
 ghost use Rattle.pmb_command.specs.Entry.{entry_parts};
 ghost use Rattle.pmb_command.specs.Parts.{CommandParts, command_with};
-ghost use Rattle.pmb_profile_text.specs.Table.{command_rows, command_table, device_keys, device_text, mode_line, mode_lines, page_row};
+ghost use Rattle.pmb_profile_text.specs.Table.{command_rows, command_table, command_text, device_keys, device_text, mode_line, mode_lines, page_row};
 
 use crate::command_row::{command_row, heading, page_row};
 use crate::device_head::{device_end, device_head};
+use crate::meaning::meaning_lines;
 use crate::modes::{are_same, mode_line, one_mode};
 use crate::pages::begins_by_page;
 use pmb_command::Entry;
@@ -84,7 +85,7 @@ fn put_each_mode<W: Sink>(
     Ok(())
 }
 
-/// Puts out the rows of a device's commands.
+/// Puts out the texts of a device's commands.
 fn put_commands<W: Sink>(
     device: &DeviceProfile,
     waiting: &mut Waiting,
@@ -100,7 +101,7 @@ fn put_commands<W: Sink>(
     Ok(())
 }
 
-/// Puts out the rows of the command at an index.
+/// Puts out the text of the command at an index.
 fn put_command<W: Sink>(
     device: &DeviceProfile,
     index: usize,
@@ -109,14 +110,31 @@ fn put_command<W: Sink>(
 ) -> Result<(), RunFault>
     requires { index < length device.now.commands }
     ensures puts { (command : CommandParts) → slice_get device.now.commands index ≡ Some command
-        → OnOk result (PutsText (W.told writer.old).held waiting.old.items (W.told writer.new).held waiting.new.items (command_rows device.now command)) }
+        → OnOk result (PutsText (W.told writer.old).held waiting.old.items (W.told writer.new).held waiting.new.items (command_text device.now command)) }
     ensures failed { WriterTells (W.told writer.old) (W.told writer.new) result }
 {
     accepted_device(device);
     let Some(entry) = device.entry_at(index) else {
         return Ok(());
     };
-    put_rows(device, entry, waiting, writer)
+    put_entry(device, entry, waiting, writer)
+}
+
+/// Puts out the rows of a command of a device, and what its data mean.
+fn put_entry<W: Sink>(
+    device: &DeviceProfile,
+    entry: &Entry,
+    waiting: &mut Waiting,
+    writer: &mut W,
+) -> Result<(), RunFault>
+    requires { IsEntry (entry_parts entry.now) }
+    ensures puts { (command : CommandParts) → command_with entry.now.code device.now.commands ≡ Some command → command.entry ≡ entry_parts entry.now
+        → OnOk result (PutsText (W.told writer.old).held waiting.old.items (W.told writer.new).held waiting.new.items (command_text device.now command)) }
+    ensures failed { WriterTells (W.told writer.old) (W.told writer.new) result }
+{
+    texts_add_up();
+    put_rows(device, entry, waiting, writer)?;
+    put(waiting, meaning_lines(device, entry).as_slice(), writer)
 }
 
 /// Puts out the rows of a command of a device: one for each page where it begins by page.

@@ -17,6 +17,7 @@ mod command_row;
 mod device_head;
 mod device_text;
 mod first_bytes;
+mod meaning;
 mod modes;
 mod pages;
 mod row;

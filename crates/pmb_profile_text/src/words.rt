@@ -65,6 +65,7 @@ pub(crate) fn kind_word(kind: &Kind) -> Word
         Kind::Vout => word_of(b"vout"),
         Kind::VoutSigned => word_of(b"vout_signed"),
         Kind::Status => word_of(b"status"),
+        Kind::Text => word_of(b"text"),
     }
 }
 

@@ -9,7 +9,7 @@ use Rattle.std.specs.Int.{w8, w16, cast_unsigned, to_le_bytes}
 use Rattle.std.specs.Option.{unwrap_or}
 use Rattle.pmb_coefficients.specs.Coefficients.{Coefficients}
 use Rattle.pmb_command.specs.declared.entry.Kind.{Kind}
-use Rattle.pmb_command.specs.declared.entry.Kind.TheVariants.{Raw, Number, Vout, VoutSigned, Status}
+use Rattle.pmb_command.specs.declared.entry.Kind.TheVariants.{Raw, Number, Vout, VoutSigned, Status, Text}
 use Rattle.pmb_value.specs.declared.number_format.NumberFormat.{NumberFormat}
 use Rattle.pmb_value.specs.declared.number_format.NumberFormat.TheVariants as formats
 use Rattle.pmb_value.specs.declared.vout.VoutFormat.{VoutFormat}
@@ -53,6 +53,7 @@ coefficients_of_kind vout (Number format) = coefficients_of_format format
 coefficients_of_kind vout Vout = vout
 coefficients_of_kind vout VoutSigned = vout
 coefficients_of_kind vout Status = None
+coefficients_of_kind vout Text = None
 
 abbrev pub coefficients_of : DeviceParts → ℕ → Option Coefficients
 coefficients_of device code =

@@ -21,7 +21,7 @@ fn coefficients_of(device: &DeviceProfile, code: u8) -> Option<Direct>
     match &entry.kind {
         Kind::Number(format) => coefficients_of_format(format),
         Kind::Vout | Kind::VoutSigned => device.vout_direct(),
-        Kind::Raw | Kind::Status => None,
+        Kind::Raw | Kind::Status | Kind::Text => None,
     }
 }
 

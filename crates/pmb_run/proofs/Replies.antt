@@ -10,7 +10,7 @@ use Rattle.std.specs.List.{find}
 use Rattle.std.specs.Option.{option_and_then, unwrap_or}
 use Rattle.pmb_coefficients.specs.Coefficients.{Coefficients, MakeFormat}
 use Rattle.pmb_command.specs.declared.entry.Kind.{Kind}
-use Rattle.pmb_command.specs.declared.entry.Kind.TheVariants.{Raw, Number, Vout, VoutSigned, Status}
+use Rattle.pmb_command.specs.declared.entry.Kind.TheVariants.{Raw, Number, Vout, VoutSigned, Status, Text}
 use Rattle.pmb_value.specs.NumberFormat.{IsFormat, IsVoutFormat}
 use Rattle.pmb_value.specs.declared.number_format.NumberFormat.{NumberFormat}
 use Rattle.pmb_value.specs.declared.number_format.NumberFormat.TheVariants as formats
@@ -89,6 +89,7 @@ kind_formats vout (Number format) make is = format_formats format is
 kind_formats vout Vout make is = make
 kind_formats vout VoutSigned make is = make
 kind_formats vout Status make is = tt
+kind_formats vout Text make is = tt
 
 command_formats : (vout : Option Coefficients) (o : Option CommandParts) → IfSome vout MakeFormat
     → IfSome o IsKeptCommand

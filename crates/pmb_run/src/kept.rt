@@ -27,7 +27,7 @@ fn kind_keeps_ranges(kind: &Kind)
 {
     match kind {
         Kind::Number(format) => format.keeps_ranges(),
-        Kind::Raw | Kind::Vout | Kind::VoutSigned | Kind::Status => {}
+        Kind::Raw | Kind::Vout | Kind::VoutSigned | Kind::Status | Kind::Text => {}
     }
 }
 

@@ -1,9 +1,12 @@
 mod BitCounts
 mod Devices
 mod NumberCounts
+mod Numbered
 mod Observations
 mod Pages
+mod Phases
 mod Replies
+mod Spots
 mod Sums
 mod Times
 mod Told

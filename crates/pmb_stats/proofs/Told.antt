@@ -1,17 +1,16 @@
--- The counts of a bit over pages, in what was told: they add up, and a read belongs to one page of the device.
-use Rattle.std.proofs.Common.{◌≡◌, ℕ, ◌+◌, Bool, false, ◌&&◌, cond, Option, Some, None, List, [], ◌∷◌, ◌++◌}
-use Rattle.std.proofs.Common.{ap, arith, eqb, inl, inr, refl, sym, ◌∙◌}
-use Rattle.std.proofs.lemmas.Bool.{cases_Bool, eq-eqb}
+-- The counts of a bit over spots, in what was told: they add up, and a read counts as often as its spot comes.
+use Rattle.std.proofs.Common.{◌≡◌, ℕ, ◌+◌, Bool, cond, Option, Some, None, List, [], ◌∷◌, ◌++◌}
+use Rattle.std.proofs.Common.{ap, arith, inl, inr, refl, sym, ◌∙◌}
+use Rattle.std.proofs.lemmas.Bool.{cases_Bool}
 use Rattle.std.proofs.lemmas.List.Sums.{sum_by-append, sum_by-cons}
+use Rattle.std.specs.List.{count_by}
 use Rattle.pmb_mean.specs.Numbers.{NumberData}
 use Rattle.pmb_observed.specs.Observed.{Observation, NumberAt, ReadAt, reads_at}
 use Rattle.pmb_observed.specs.Observing.{number_at}
-use Rattle.pmb_observed.specs.Spot.{page_keys, same_page, same_spot, spot_at}
-use Rattle.pmb_observed.specs.declared.spot.PageKey.{PageKey}
+use Rattle.pmb_observed.specs.Spot.{same_spot}
 use Rattle.pmb_observed.specs.declared.spot.Spot.{Spot}
-use Rattle.pmb_stats.proofs.Pages.{IsPage, comes_once}
-use Rattle.pmb_stats.proofs.Sums.{sum_both, sum_none, sum_same, sum_where}
-use Rattle.pmb_stats.specs.BitCounts.{count_on}
+use Rattle.pmb_stats.proofs.Sums.{none_either, sum_both, sum_none, sum_same, sum_where}
+use Rattle.pmb_stats.specs.BitCounts.{count_at}
 use Rattle.pmb_stats_bits.specs.Bits.{RegisterRead, found, set_count}
 
 -- ---- what is told, one after the other
@@ -34,45 +33,42 @@ reads_append spot (ReadAt at read ∷ told) more =
     ]
 reads_append spot (NumberAt at number ∷ told) more = reads_append spot told more
 
-module _ (addr code bit : ℕ) where
-  -- on a page
-  abbrev set_on : List Observation → PageKey → ℕ
-  set_on told page = set_count (reads_at (spot_at addr code page) told) bit
+module _ (bit : ℕ) where
+  -- at a spot
+  abbrev set_at : List Observation → Spot → ℕ
+  set_at told spot = set_count (reads_at spot told) bit
 
-  set_append : (told more : List Observation) (page : PageKey)
-      → set_on (told ++ more) page ≡ set_on told page + set_on more page
-  set_append told more page =
-      let spot = spot_at addr code page in
+  set_append : (told more : List Observation) (spot : Spot)
+      → set_at (told ++ more) spot ≡ set_at told spot + set_at more spot
+  set_append told more spot =
       ap (λ reads. set_count reads bit) (reads_append spot told more)
       ∙ sum_by-append (λ r. cond (found bit r) 1 0) (reads_at spot told) (reads_at spot more)
 
   -- counts of what is told add up
-  pub count_append : (told more : List Observation) (pages : List PageKey)
-      → count_on addr code bit (told ++ more) pages
-      ≡ count_on addr code bit told pages + count_on addr code bit more pages
-  count_append told more pages =
-      sum_same (set_on (told ++ more)) (λ page. set_on told page + set_on more page) (set_append told more) pages
-      ∙ sum_both (set_on told) (set_on more) pages
+  pub count_append : (told more : List Observation) (spots : List Spot)
+      → count_at bit (told ++ more) spots ≡ count_at bit told spots + count_at bit more spots
+  count_append told more spots =
+      sum_same (set_at (told ++ more)) (λ spot. set_at told spot + set_at more spot) (set_append told more) spots
+      ∙ sum_both (set_at told) (set_at more) spots
 
   -- ---- one of them
 
-  pub count_nothing : (pages : List PageKey) → count_on addr code bit [] pages ≡ 0
-  count_nothing pages = sum_none (set_on []) (λ page. refl) pages
+  pub count_nothing : (spots : List Spot) → count_at bit [] spots ≡ 0
+  count_nothing spots = sum_none (set_at []) (λ spot. refl) spots
 
-  pub count_number : (spot : Spot) (number : Option NumberData) (pages : List PageKey)
-      → count_on addr code bit (number_at spot number) pages ≡ 0
-  count_number spot None pages = count_nothing pages
-  count_number spot (Some number) pages = sum_none (set_on (NumberAt spot number ∷ [])) (λ page. refl) pages
+  pub count_number : (at : Spot) (number : Option NumberData) (spots : List Spot)
+      → count_at bit (number_at at number) spots ≡ 0
+  count_number at None spots = count_nothing spots
+  count_number at (Some number) spots = sum_none (set_at (NumberAt at number ∷ [])) (λ spot. refl) spots
 
-  -- a read, at each page: by whether it belongs there
-  set_read : (spot : Spot) (read : RegisterRead) (page : PageKey)
-      → set_on (ReadAt spot read ∷ []) page
-      ≡ cond (same_spot spot (spot_at addr code page)) (cond (found bit read) 1 0) 0
-  set_read spot read page =
+  -- a read, at each spot: by whether it is its own
+  set_read : (at : Spot) (read : RegisterRead) (spot : Spot)
+      → set_at (ReadAt at read ∷ []) spot ≡ cond (same_spot at spot) (cond (found bit read) 1 0) 0
+  set_read at read spot =
       let found_it : ℕ = cond (found bit read) 1 0 in
       let first = sum_by-cons (λ r. cond (found bit r) 1 0) read [] in
       let one : set_count (read ∷ []) bit ≡ found_it = omega (arith, first) in
-      elim (cases_Bool (same_spot spot (spot_at addr code page))) [
+      elim (cases_Bool (same_spot at spot)) [
         | inl is ↦
             ap (λ (b : Bool). set_count (cond b (read ∷ []) []) bit) is
             ∙ (one ∙ sym (ap (λ (b : Bool). cond b found_it 0) is))
@@ -81,29 +77,22 @@ module _ (addr code bit : ℕ) where
             ∙ sym (ap (λ (b : Bool). cond b found_it 0) is)
       ]
 
-  -- a read that belongs to no page of the command
-  pub count_elsewhere : (spot : Spot) (read : RegisterRead) (pages : List PageKey)
-      → ((page : PageKey) → same_spot spot (spot_at addr code page) ≡ false)
-      → count_on addr code bit (ReadAt spot read ∷ []) pages ≡ 0
-  count_elsewhere spot read pages apart =
-      sum_none (set_on (ReadAt spot read ∷ []))
-      (λ page. set_read spot read page
-      ∙ ap (λ (b : Bool). cond b (cond {A = ℕ} (found bit read) 1 0) 0) (apart page)) pages
+  -- .. at all of them: as often as its own comes
+  count_read : (at : Spot) (read : RegisterRead) (spots : List Spot)
+      → count_at bit (ReadAt at read ∷ []) spots ≡ cond (found bit read) (count_by (same_spot at) spots) 0
+  count_read at read spots =
+      sum_same (set_at (ReadAt at read ∷ [])) (λ spot. cond (same_spot at spot) (cond (found bit read) 1 0) 0)
+      (set_read at read) spots ∙ sum_where (same_spot at) (found bit read) spots
 
-  -- whether it belongs to a page of the command, by its own page
-  by_page : (key page : PageKey) → same_spot (spot_at addr code key) (spot_at addr code page) ≡ same_page key page
-  by_page key page =
-      ap (λ (b : Bool). b && (eqb code code && same_page key page)) (eq-eqb addr addr refl)
-      ∙ ap (λ (b : Bool). b && same_page key page) (eq-eqb code code refl)
+  -- a read whose spot comes once
+  pub count_once : (at : Spot) (read : RegisterRead) (spots : List Spot) → count_by (same_spot at) spots ≡ 1
+      → count_at bit (ReadAt at read ∷ []) spots ≡ cond (found bit read) 1 0
+  count_once at read spots once =
+      count_read at read spots ∙ ap (λ (n : ℕ). cond (found bit read) n 0) once
 
-  -- a read of the command, on a page of the device
-  pub count_here : (pages : ℕ) (key : PageKey) (read : RegisterRead) → IsPage pages key
-      → count_on addr code bit (ReadAt (spot_at addr code key) read ∷ []) (page_keys pages)
-      ≡ cond (found bit read) 1 0
-  count_here pages key read is =
-      sum_same (set_on (ReadAt (spot_at addr code key) read ∷ []))
-      (λ page. cond (same_page key page) (cond (found bit read) 1 0) 0)
-      (λ page. set_read (spot_at addr code key) read page
-      ∙ ap (λ (b : Bool). cond b (cond {A = ℕ} (found bit read) 1 0) 0) (by_page key page)) (page_keys pages)
-      ∙ (sum_where (same_page key) (found bit read) (page_keys pages)
-      ∙ ap (λ n. cond (found bit read) n 0) (comes_once pages key is))
+  -- .. and whose spot doesn't come
+  pub count_never : (at : Spot) (read : RegisterRead) (spots : List Spot) → count_by (same_spot at) spots ≡ 0
+      → count_at bit (ReadAt at read ∷ []) spots ≡ 0
+  count_never at read spots never =
+      count_read at read spots
+      ∙ (ap (λ (n : ℕ). cond (found bit read) n 0) never ∙ none_either (found bit read))

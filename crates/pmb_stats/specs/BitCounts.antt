@@ -1,17 +1,17 @@
--- How many reads of a status register found a bit set, whatever page is selected.
+-- How many reads of a status register found a bit set, whatever page and phase are selected.
 use Rattle.std.specs.Prelude.{◌≡◌, ℕ, ◌+◌, ◌*◌, ◌==◌, ◌&&◌, Bool, true, false, List, [], ◌∷◌, count_by}
 use Rattle.std.specs.List.{sum_by}
 use Rattle.pmb_command.specs.Parts.{DeviceParts, device_with}
 use Rattle.pmb_facts.specs.Fact.{FactData, WhatData, Write, Read, Call, Refused, Alert, NoAlert, Other, Refusal}
 use Rattle.pmb_facts.specs.Fact.{BadToken}
-use Rattle.pmb_json_objects.specs.Seen.{entry_of}
+use Rattle.pmb_json_objects.specs.Seen.{command_of}
 use Rattle.pmb_keeper.specs.Setting.{Setting}
 use Rattle.pmb_note.specs.Note.{is_set}
 use Rattle.pmb_observed.specs.Observed.{Observation, reads_at}
 use Rattle.pmb_observed.specs.Observing.{observations}
-use Rattle.pmb_observed.specs.Spot.{is_of, is_register, spot_at}
-use Rattle.pmb_observed.specs.Told.{device_pages}
-use Rattle.pmb_observed.specs.declared.spot.PageKey.{PageKey}
+use Rattle.pmb_observed.specs.Spot.{is_of, is_register}
+use Rattle.pmb_observed.specs.Told.{command_spots}
+use Rattle.pmb_observed.specs.declared.spot.Spot.{Spot}
 use Rattle.pmb_stats_bits.specs.Bits.{set_count}
 
 -- ---- by facts alone
@@ -38,17 +38,17 @@ finds_set addr code bit (BadToken word) = false
 abbrev pub bit_count : ℕ → ℕ → ℕ → List FactData → ℕ
 bit_count addr code bit facts = count_by (λ fact. finds_set addr code bit fact.what) facts
 
--- ---- by pages
+-- ---- by pages and phases
 
 -- whether the command with a code, of the device with an address, is a status register
 abbrev pub IsRegister : List DeviceParts → ℕ → ℕ → Type 0
-IsRegister profile addr code = is_of is_register (entry_of (device_with addr profile) code) ≡ true
+IsRegister profile addr code = is_of is_register (command_of (device_with addr profile) code) ≡ true
 
--- of what was told of some pages, the counts of the bit on each of them, added up
-abbrev pub count_on : ℕ → ℕ → ℕ → List Observation → List PageKey → ℕ
-count_on addr code bit told pages = sum_by (λ page. set_count (reads_at (spot_at addr code page) told) bit) pages
+-- of what was told of some spots, the counts of a bit at each of them, added up
+abbrev pub count_at : ℕ → List Observation → List Spot → ℕ
+count_at bit told spots = sum_by (λ spot. set_count (reads_at spot told) bit) spots
 
--- .. of what facts tell of all pages of the device
+-- .. of what facts tell of all spots of the command: on all pages of its device, in all its phases
 abbrev pub count_on_pages : Setting → ℕ → ℕ → ℕ → List FactData → ℕ
 count_on_pages setting addr code bit facts =
-    count_on addr code bit (observations setting facts) (device_pages setting.profile addr)
+    count_at bit (observations setting facts) (command_spots setting.profile addr code)

@@ -13,15 +13,16 @@ ghost use Rattle.pmb_stats.specs.Standing.{StatsStand};
 use pmb_stats_counts::laws::{devices_that_came_have_counts, one_count};
 use pmb_stats_room::laws::one_room;
 
-/// The counts of a bit on the pages of a device are together the count of all reads that found it set,
-/// whatever page was selected.
+/// The counts of a bit on the pages of a device, and in the phases of its command, are together the
+/// count of all reads that found it set, whatever page and phase were selected.
 pub fn pages_make_the_whole()
     ensures { (setting : Setting) (addr code bit : ℕ) (facts : List FactData) → IsRegister setting.profile addr code
         → count_on_pages setting addr code bit facts ≡ bit_count addr code bit facts }
 {}
 
-/// The numbers on the pages of a device are together all numbers that facts tell of the command, whatever page
-/// was selected: each is told of one of these pages, and of no other.
+/// The numbers on the pages of a device, and in the phases of its command, are together all numbers
+/// that facts tell of the command, whatever page and phase were selected: each is told of one of
+/// these pages and phases, and of no other.
 pub fn pages_have_all_numbers()
     ensures { (setting : Setting) (addr code : ℕ) (facts : List FactData)
         → numbers_on_pages setting addr code facts ≡ number_count addr code (observations setting facts) }

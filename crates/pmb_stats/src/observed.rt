@@ -3,26 +3,27 @@
 //! Its rows: `tests/rows/stats.txt`, bits and numbers.
 
 ghost use Rattle.std.specs.Prelude.{◌≡◌, List, Option, ℕ};
-ghost use Rattle.pmb_command.specs.Entry.{entry_parts};
 ghost use Rattle.pmb_facts.specs.Fact.{WhatData};
 ghost use Rattle.pmb_facts.specs.Stands.{Stands};
 ghost use Rattle.pmb_json_objects.specs.Seen.{SeenData, basis_at};
 ghost use Rattle.pmb_json_objects.specs.Sees.{Sees};
+ghost use Rattle.pmb_keys.specs.CommandView.{command_parts};
 ghost use Rattle.pmb_observed.specs.Observing.{number_seen, observed, read_at, register_of, replied, spot_of, written};
 ghost use Rattle.pmb_stats.specs.machine.Observed.{told};
 
-use crate::page::page_key;
+use crate::place::{page_key, phase_key};
 use crate::word::{number_of, register_of};
-use pmb_command::{Entry, Kind};
+use pmb_command::Kind;
 use pmb_facts::What;
 use pmb_json_fields::Basis;
 use pmb_json_objects::Seen;
+use pmb_keys::Command;
 use pmb_mean::Number;
-use pmb_observed::Spot;
+use pmb_observed::{Spot, phases_of};
 use pmb_table::DeviceProfile;
 use pmb_voltage::Voltages;
 
-/// What a fact tells of a command of a device, on a page.
+/// What a fact tells of a command of a device, on a page, in a phase.
 pub(crate) enum Observed {
     Nothing,
     /// A status register was read, and held this word.
@@ -66,10 +67,10 @@ fn observe_written(seen: &Seen<'_>, addr: u8, code: u8, bytes: &[u8]) -> Observe
     let Some(device) = seen.profile.device(addr) else {
         return Observed::Nothing;
     };
-    let Some(entry) = device.entry(code) else {
+    let Some(command) = device.command(code) else {
         return Observed::Nothing;
     };
-    observe_number(seen, addr, code, device, entry, bytes)
+    observe_number(seen, addr, code, device, command, bytes)
 }
 
 /// What data tell that were read: a status register or a number.
@@ -79,13 +80,13 @@ fn observe_reply(seen: &Seen<'_>, addr: u8, code: u8, bytes: &[u8]) -> Observed
     let Some(device) = seen.profile.device(addr) else {
         return Observed::Nothing;
     };
-    let Some(entry) = device.entry(code) else {
+    let Some(command) = device.command(code) else {
         return Observed::Nothing;
     };
-    match entry.kind {
-        Kind::Status => observe_register(seen, addr, code, device, entry, bytes),
-        Kind::Raw | Kind::Number(_) | Kind::Vout | Kind::VoutSigned => {
-            observe_number(seen, addr, code, device, entry, bytes)
+    match command.entry.kind {
+        Kind::Status => observe_register(seen, addr, code, device, command, bytes),
+        Kind::Raw | Kind::Number(_) | Kind::Vout | Kind::VoutSigned | Kind::Text => {
+            observe_number(seen, addr, code, device, command, bytes)
         }
     }
 }
@@ -96,11 +97,11 @@ fn observe_number(
     addr: u8,
     code: u8,
     device: &DeviceProfile,
-    entry: &Entry,
+    command: &Command,
     bytes: &[u8],
 ) -> Observed
     ensures { (known : SeenData) (time : Option (List ℕ)) → Sees seen.now known
-        → told time result ≡ number_seen known addr code device.now (entry_parts entry.now) bytes.now }
+        → told time result ≡ number_seen known addr code device.now (command_parts command.now) bytes.now }
 {
     let voltages = Voltages {
         mode: seen.late.mode(addr),
@@ -108,10 +109,11 @@ fn observe_number(
         coefficients: device.vout_direct(),
         vid: device.vid(),
     };
-    let number = number_of(&voltages, basis(seen, addr), code, entry.kind, bytes);
+    let kind = command.entry.kind;
+    let number = number_of(&voltages, basis(seen, addr), code, kind, bytes);
     match number {
         Some(number) => Observed::Number {
-            spot: spot_of(seen, addr, code, device, entry),
+            spot: spot_of(seen, addr, code, device, command),
             number,
         },
         None => Observed::Nothing,
@@ -124,15 +126,15 @@ fn observe_register(
     addr: u8,
     code: u8,
     device: &DeviceProfile,
-    entry: &Entry,
+    command: &Command,
     bytes: &[u8],
 ) -> Observed
     ensures { (known : SeenData) (time : Option (List ℕ)) → Sees seen.now known
-        → told time result ≡ read_at (spot_of known addr code device.now (entry_parts entry.now)) (register_of bytes.now time) }
+        → told time result ≡ read_at (spot_of known addr code device.now (command_parts command.now)) (register_of bytes.now time) }
 {
     match register_of(bytes) {
         Some(word) => Observed::Read {
-            spot: spot_of(seen, addr, code, device, entry),
+            spot: spot_of(seen, addr, code, device, command),
             word,
         },
         None => Observed::Nothing,
@@ -146,13 +148,14 @@ fn basis(seen: &Seen<'_>, addr: u8) -> Basis
     Basis::of(seen.late.is_assumed(addr))
 }
 
-/// The spot of a command of a device, on the page that is selected.
-fn spot_of(seen: &Seen<'_>, addr: u8, code: u8, device: &DeviceProfile, entry: &Entry) -> Spot
-    ensures { (known : SeenData) → Sees seen.now known → result ≡ spot_of known addr code device.now (entry_parts entry.now) }
+/// The spot of a command of a device, on the page and in the phase that are selected.
+fn spot_of(seen: &Seen<'_>, addr: u8, code: u8, device: &DeviceProfile, command: &Command) -> Spot
+    ensures { (known : SeenData) → Sees seen.now known → result ≡ spot_of known addr code device.now (command_parts command.now) }
 {
     Spot {
         addr,
         code,
-        page: page_key(device.pages(), entry.paged, seen.late.page(addr)),
+        page: page_key(device.pages(), command.entry.paged, seen.late.page(addr)),
+        phase: phase_key(phases_of(device, command), seen.late.phase(addr)),
     }
 }

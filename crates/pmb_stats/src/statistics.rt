@@ -33,8 +33,8 @@ use pmb_table::Profile;
 use std::alloc::{AllocError, Global};
 
 /// What is kept of a capture: what is counted of the whole and of each device, the first and the last
-/// time, what may make the status 1, and what was observed of each command on each page. It stands at
-/// the facts that it was given since it was made.
+/// time, what may make the status 1, and what was observed of each command on each page, in each
+/// phase. It stands at the facts that it was given since it was made.
 #[derive(Drop)]
 pub struct Statistics<'p> {
     profile: &'p Profile,

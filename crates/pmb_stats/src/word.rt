@@ -47,7 +47,7 @@ fn word_number(
     ensures { result ≡ word_number (voltages_data voltages.now) basis code kind word }
 {
     match kind {
-        Kind::Raw | Kind::Status => None,
+        Kind::Raw | Kind::Status | Kind::Text => None,
         Kind::Number(format) => Number::of_word(&format, word, false),
         Kind::Vout => voltage(voltages, basis, code, Sign::Unsigned, word),
         Kind::VoutSigned => voltage(voltages, basis, code, Sign::Signed, word),

@@ -1,10 +1,10 @@
 -- Each object is JSON with distinct keys, item by item: for the law `objects_are_json`.
 use Rattle.std.proofs.Common.{◌≡◌, ℕ, true, None, List, []}
-use Rattle.std.proofs.Common.{◌∷◌, ◌++◌, arith, codes, filter, length, map, nat_eq, refl}
+use Rattle.std.proofs.Common.{◌∷◌, ◌++◌, arith, codes, filter, length, map, refl}
 use Rattle.std.specs.List.{AllByRecursion, flat_map, range_with_len}
-use Rattle.pmb_command.specs.Bus.{IsBus, IsDevice}
+use Rattle.pmb_command.specs.Bus.{IsBus}
 use Rattle.pmb_command.specs.Entry.{EntryParts}
-use Rattle.pmb_command.specs.Parts.{device_with}
+use Rattle.pmb_command.specs.Parts.{DeviceParts, device_with}
 use Rattle.pmb_facts.specs.Fact.{FactData}
 use Rattle.pmb_io.specs.Count.{capped}
 use Rattle.pmb_json_objects.specs.Laws.{IsJsonObject}
@@ -12,7 +12,7 @@ use Rattle.pmb_json_objects.specs.Members.{kind_member}
 use Rattle.pmb_json_objects.proofs.Below.{FewerAreDistinct, TestedAreDistinct}
 use Rattle.pmb_json_objects.proofs.Fine.{DigitsAreNumbers, all_of_both, are_bytes, fine_count}
 use Rattle.pmb_json_objects.proofs.Fine.{fine_digits}
-use Rattle.pmb_json_objects.proofs.Fine.{fine_null, fine_text, fine_word, of_found}
+use Rattle.pmb_json_objects.proofs.Fine.{fine_null, fine_text, fine_word}
 use Rattle.pmb_json_objects.proofs.Shared.{fine_device, keys_of_device, name_keys}
 use Rattle.pmb_json_text.specs.Member.{Member}
 use Rattle.pmb_json_text.specs.Spelling.{AreBytes}
@@ -20,6 +20,8 @@ use Rattle.pmb_keeper.specs.Setting.{Setting}
 use Rattle.pmb_mean.specs.Numbers.{count_assumed}
 use Rattle.pmb_observed.specs.declared.spot.PageKey.{PageKey}
 use Rattle.pmb_observed.specs.declared.spot.PageKey.TheVariants.{AllPages, OnPage, Unpaged, UnknownPage}
+use Rattle.pmb_observed.specs.declared.spot.PhaseKey.{PhaseKey}
+use Rattle.pmb_observed.specs.declared.spot.PhaseKey.TheVariants.{AllPhases, OnPhase, UnknownPhase, Unphased}
 use Rattle.pmb_observed.specs.Observed.{Observation}
 use Rattle.pmb_observed.specs.Observing.{observations, times}
 use Rattle.pmb_observed.specs.Told.{BitData, NumbersData, device_pages}
@@ -37,12 +39,13 @@ use Rattle.pmb_transaction.specs.declared.reason.Reason.TheVariants.{Truncated}
 use Rattle.pmb_transaction.specs.Names.{reason_name}
 use Rattle.pmb_stats_objects.specs.Counts.{counts_members, nack_members, reason_members, reasons, sort_member}
 use Rattle.pmb_stats_objects.specs.Objects.{device_object, device_objects, end_object, stats_objects}
-use Rattle.pmb_stats_objects.specs.Pages.{bit_item, bit_members, command_members, found_members, numbers_item}
-use Rattle.pmb_stats_objects.specs.Pages.{numbers_members, page_if, page_item, page_items, page_member}
+use Rattle.pmb_stats_objects.specs.Pages.{bit_item, bit_members, bit_name, command_members, found_members}
+use Rattle.pmb_stats_objects.specs.Pages.{numbers_item, numbers_members, page_if, page_item, page_items, page_member}
+use Rattle.pmb_stats_objects.specs.Pages.{phase_member}
 use Rattle.pmb_stats_objects.proofs.JsonMembers.{IsJson, IsTold, json_object, told_both, told_count, told_fraction}
 use Rattle.pmb_stats_objects.proofs.JsonMembers.{told_list}
 use Rattle.pmb_stats_objects.proofs.JsonMembers.{json_members, told_none, told_object, told_one, told_text}
-use Rattle.pmb_stats_objects.proofs.Names.{bit_name_bytes, unit_bytes}
+use Rattle.pmb_stats_objects.proofs.Names.{bit_name_bytes}
 use Rattle.pmb_stats_objects.proofs.NumberTexts.{greatest_is_bounded, last_is_bounded}
 use Rattle.pmb_stats_objects.proofs.NumberTexts.{least_is_bounded, mean_is_bounded}
 use Rattle.pmb_stats_objects.proofs.JsonNeeds.{all_of_map}
@@ -50,7 +53,7 @@ use Rattle.pmb_stats_objects.proofs.JsonNeeds.{IsBit, AreNumbers}
 use Rattle.pmb_stats_objects.proofs.JsonNeeds.{page_bits_needed}
 use Rattle.pmb_stats_objects.proofs.JsonNeeds.{page_numbers_needed, first_is, last_is, gone_is}
 use Rattle.pmb_stats_objects.proofs.JsonNeeds.{number_if, assumed_few, first_of_times, last_of_times}
-use Rattle.pmb_stats_objects.proofs.JsonNeeds.{IsSmallPage, small_pages}
+use Rattle.pmb_stats_objects.proofs.JsonNeeds.{IsSmallPage, IsSmallPhase, device_is, small_pages}
 
 -- ---- reasons and counts
 
@@ -71,21 +74,32 @@ count_keys = codes "writes" ∷ codes "reads" ∷ codes "calls" ∷ codes "alert
 
 -- ---- items
 
-told_command : (entry : EntryParts) → AreBytes entry.name
-    → IsTold (command_members entry) (codes "code" ∷ codes "command" ∷ [])
-told_command entry name =
-    told_both _ _ (codes "code" ∷ []) (codes "command" ∷ [])
-    (told_one _ (fine_digits (codes "code") (entry.code ∷ []) refl))
-    (told_one _ (fine_text (codes "command") entry.name refl name))
+abbrev item_keys : List (List ℕ)
+item_keys = codes "code" ∷ codes "command" ∷ codes "phase" ∷ []
 
 module _ (numbers_are : DigitsAreNumbers) (fewer : FewerAreDistinct) (distinct : TestedAreDistinct) where
+  told_phase : (phase : PhaseKey) → IsSmallPhase phase → IsTold (phase_member phase) (codes "phase" ∷ [])
+  told_phase (OnPhase phase) small = told_one _ (fine_count numbers_are (codes "phase") phase refl small)
+  told_phase AllPhases small = told_one _ (fine_word (codes "phase") (codes "all") refl refl)
+  told_phase UnknownPhase small = told_one _ (fine_null (codes "phase") refl)
+  told_phase Unphased small = told_none (codes "phase")
+
+  told_command : (entry : EntryParts) (phase : PhaseKey) → AreBytes entry.name → IsSmallPhase phase
+      → IsTold (command_members entry phase) item_keys
+  told_command entry phase name small =
+      told_both _ _ (codes "code" ∷ []) (codes "command" ∷ codes "phase" ∷ [])
+      (told_one _ (fine_digits (codes "code") (entry.code ∷ []) refl))
+      (told_both (_ ∷ []) _ (codes "command" ∷ []) (codes "phase" ∷ [])
+      (told_one _ (fine_text (codes "command") entry.name refl name)) (told_phase phase small))
+
   json_bit : (b : BitData) → IsBit b → IsJson (bit_item b)
   json_bit b is =
-      json_object fewer distinct (bit_members b)
-      (codes "code" ∷ codes "command" ∷ codes "bit" ∷ codes "count" ∷ codes "first" ∷ codes "last" ∷ codes "gone" ∷ [])
-      (told_both (command_members b.entry) _ (codes "code" ∷ codes "command" ∷ []) _ (told_command b.entry is.name)
+      json_object fewer distinct (command_members b.command.entry b.phase ++ bit_members b)
+      (item_keys ++ codes "bit" ∷ codes "count" ∷ codes "first" ∷ codes "last" ∷ codes "gone" ∷ [])
+      (told_both (command_members b.command.entry b.phase) (bit_members b) item_keys _
+      (told_command b.command.entry b.phase is.texts.name is.phase)
       (told_both (_ ∷ []) _ (codes "bit" ∷ []) _
-      (told_one _ (fine_text (codes "bit") _ refl (bit_name_bytes b.entry.code b.bit (omega (arith, is.few)))))
+      (told_one _ (fine_text (codes "bit") (bit_name b) refl (bit_name_bytes b is.texts.bits (omega (arith, is.few)))))
       (told_both (_ ∷ []) _ (codes "count" ∷ []) _
       (told_one _ (fine_count numbers_are (codes "count") (capped (set_count b.reads b.bit)) refl (omega arith)))
       (told_both _ _ (codes "first" ∷ codes "last" ∷ []) (codes "gone" ∷ [])
@@ -97,10 +111,11 @@ module _ (numbers_are : DigitsAreNumbers) (fewer : FewerAreDistinct) (distinct :
 
   json_numbers : (digits : ℕ) (n : NumbersData) → AreNumbers n → IsJson (numbers_item digits n)
   json_numbers digits n is =
-      json_object fewer distinct (numbers_members digits n)
-      (codes "code" ∷ codes "command" ∷ codes "count" ∷ codes "assumed" ∷ codes "least" ∷ codes "mean"
-      ∷ codes "greatest" ∷ codes "last" ∷ codes "unit" ∷ [])
-      (told_both (command_members n.entry) _ (codes "code" ∷ codes "command" ∷ []) _ (told_command n.entry is.name)
+      json_object fewer distinct (command_members n.command.entry n.phase ++ numbers_members digits n)
+      (item_keys ++ codes "count" ∷ codes "assumed" ∷ codes "least" ∷ codes "mean" ∷ codes "greatest" ∷ codes "last"
+      ∷ codes "unit" ∷ [])
+      (told_both (command_members n.command.entry n.phase) (numbers_members digits n) item_keys _
+      (told_command n.command.entry n.phase is.texts.name is.phase)
       (told_both (_ ∷ []) _ (codes "count" ∷ []) _
       (told_one _ (fine_count numbers_are (codes "count") (length n.numbers) refl is.few))
       (told_both _ _ (codes "assumed" ∷ codes "least" ∷ codes "mean" ∷ codes "greatest" ∷ codes "last" ∷ [])
@@ -115,7 +130,7 @@ module _ (numbers_are : DigitsAreNumbers) (fewer : FewerAreDistinct) (distinct :
       (told_fraction digits (codes "mean") _ refl (number_if digits _ (mean_is_bounded n.numbers is.fits))))
       (told_fraction digits (codes "greatest") _ refl (number_if digits _ (greatest_is_bounded n.numbers is.fits))))
       (told_fraction digits (codes "last") _ refl (number_if digits _ (last_is_bounded n.numbers is.fits))))
-      (told_text (codes "unit") _ refl (unit_bytes n.entry)))))
+      (told_text (codes "unit") n.command.unit refl is.texts.unit))))
       refl
 
   -- ---- pages
@@ -204,22 +219,21 @@ module _ (numbers_are : DigitsAreNumbers) (fewer : FewerAreDistinct) (distinct :
       (told_text (codes "last") _ refl (last_of_times None (times facts) tt timed)))))
       refl
 
-  module _ (setting : Setting) (bus : IsBus setting.profile) (told : List Observation) (are : AreObserved told) where
+  module _ (profile : List DeviceParts) (bus : IsBus profile) (told : List Observation) (are : AreObserved told) where
     json_pages : (digits addr : ℕ) (pages : List PageKey) → AllByRecursion IsSmallPage pages
-        → AllByRecursion IsJson (flat_map (page_item digits setting.profile told addr) pages)
+        → AllByRecursion IsJson (flat_map (page_item digits profile told addr) pages)
     json_pages digits addr [] small = tt
     json_pages digits addr (page ∷ pages) small =
-        all_of_both IsJson (page_item digits setting.profile told addr page)
-        (flat_map (page_item digits setting.profile told addr) pages)
-        (json_page digits page (page_bits setting.profile told addr page) (page_numbers setting.profile told addr page)
-        small.0 (page_bits_needed setting bus told are addr page) (page_numbers_needed setting bus told are addr page))
+        all_of_both IsJson (page_item digits profile told addr page)
+        (flat_map (page_item digits profile told addr) pages)
+        (json_page digits page (page_bits profile told addr page) (page_numbers profile told addr page)
+        small.0 (page_bits_needed profile bus told are addr page) (page_numbers_needed profile bus told are addr page))
         (json_pages digits addr pages small.1)
 
-    json_page_items : (digits addr : ℕ) → AllByRecursion IsJson (page_items digits setting.profile told addr)
+    json_page_items : (digits addr : ℕ) → AllByRecursion IsJson (page_items digits profile told addr)
     json_page_items digits addr =
-        json_pages digits addr (device_pages setting.profile addr)
-        (small_pages (device_with addr setting.profile)
-        (of_found IsDevice (λ d. nat_eq d.address addr) setting.profile bus.devices))
+        json_pages digits addr (device_pages profile addr)
+        (small_pages (device_with addr profile) (device_is profile addr bus))
 
   json_device : (digits : ℕ) (setting : Setting) (facts : List FactData) (addr : ℕ) → IsBus setting.profile
       → AreObserved (observations setting facts) → IsJsonObject (device_object digits setting facts addr).members
@@ -232,7 +246,8 @@ module _ (numbers_are : DigitsAreNumbers) (fewer : FewerAreDistinct) (distinct :
       (told_one _ (fine_word (codes "kind") (codes "device") refl refl))
       (record { fine = fine_device setting.profile addr bus; part = keys_of_device setting.profile addr }))
       (told_counts (of_device addr facts)))
-      (told_list (codes "pages") _ refl (json_page_items setting bus (observations setting facts) are digits addr)))
+      (told_list (codes "pages") _ refl
+      (json_page_items setting.profile bus (observations setting facts) are digits addr)))
       refl
 
   json_devices : (digits : ℕ) (setting : Setting) (facts : List FactData) (addrs : List ℕ) → IsBus setting.profile

@@ -7,6 +7,7 @@ mod Names
 mod NumberTexts
 mod ObjectLines
 mod PageKeys
+mod Phases
 mod Pieces
 mod Putting
 mod Spots

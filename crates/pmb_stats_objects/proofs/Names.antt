@@ -1,21 +1,22 @@
--- Names of bits and units are bytes: for the law `objects_are_json`. The tables are tested by computation.
+-- Names of bits are bytes: for the law `objects_are_json`. The table of the standard's is tested by computation, and
+-- the profile's are bytes since it is accepted.
 use Rattle.std.proofs.Common.{◌≡◌, ◌<◌, ◌==◌, ℕ, zero, suc, ◌^◌, Bool, true, false, cond, Option, Some, None, List}
-use Rattle.std.proofs.Common.{[], ◌∷◌}
-use Rattle.std.proofs.Common.{◌≤◌, arith, codes, decimal, inl, inr, nat_le, refl, reverse, slice_get, subst, sym}
+use Rattle.std.proofs.Common.{[], ◌∷◌, ◌≤◌, arith, codes, decimal, inl, inr, nat_eq, nat_le, refl, reverse}
+use Rattle.std.proofs.Common.{slice_get, subst, sym}
 use Rattle.std.specs.Prelude.{IfSome, option_map}
 use Rattle.std.specs.List.{AllByRecursion, find, list_all}
 use Rattle.std.specs.Option.{option_flatten}
 use Rattle.std.proofs.lemmas.Bool.{and_parts, leb-true}
-use Rattle.pmb_command.specs.Entry.{EntryParts}
-use Rattle.pmb_command.specs.Commands.{standard_entry}
+use Rattle.pmb_command.specs.Parts.{NamedBit, name_of_bit}
 use Rattle.pmb_command.specs.StatusBits.{BitNames, bit_text, status_bits}
+use Rattle.pmb_command_data.specs.Bits.{bit_text_in, or_name}
 use Rattle.pmb_decimal.proofs.Numbers.{decimal_is_whole}
 use Rattle.pmb_json_objects.proofs.Fine.{all_of_both, are_bytes, of_found, tested_bytes}
 use Rattle.pmb_json_text.specs.Json.{AreDigits, IsWhole}
 use Rattle.pmb_json_text.specs.Spelling.{AreBytes}
 use Rattle.pmb_note.specs.Note.{named_bit}
-use Rattle.pmb_units.specs.Units.{UnitRow, is_standard, standard_unit, unit_of, unit_rows}
-use Rattle.pmb_stats_objects.proofs.Lists.{one_of_two}
+use Rattle.pmb_observed.specs.Told.{BitData}
+use Rattle.pmb_stats_objects.specs.Pages.{bit_name}
 
 -- ---- digits
 
@@ -76,33 +77,25 @@ named_bytes None bit few bytes =
     (decimal_bytes bit few)
 named_bytes (Some name) bit few bytes = bytes
 
-pub bit_name_bytes : (code bit : ℕ) → bit < 2 ^ 64 → AreBytes (named_bit (bit_text code bit) bit)
-bit_name_bytes code bit few = named_bytes (bit_text code bit) bit few (bit_text_bytes code bit)
+-- ---- the profile's names
 
--- ---- units
+found_bytes : (found : Option NamedBit) → IfSome found (λ b. AreBytes b.name)
+    → IfSome (option_map (λ b. b.name) found) AreBytes
+found_bytes None is = tt
+found_bytes (Some b) is = is
 
-rows_are_bytes : (rows : List UnitRow) → list_all (λ row. are_bytes row.unit) rows ≡ true
-    → AllByRecursion (λ row. AreBytes row.unit) rows
-rows_are_bytes [] are = tt
-rows_are_bytes (row ∷ rows) are =
-    let here = and_parts (are_bytes row.unit) (list_all (λ row. are_bytes row.unit) rows) are in
-    (tested_bytes row.unit here.0, rows_are_bytes rows here.1)
+either_bytes : (name other : Option (List ℕ)) → IfSome name AreBytes → IfSome other AreBytes
+    → IfSome (or_name name other) AreBytes
+either_bytes None other is others = others
+either_bytes (Some name) other is others = is
 
-unit_in_row : (row : Option UnitRow) → IfSome row (λ row. AreBytes row.unit)
-    → IfSome (option_map (λ row. row.unit) row) AreBytes
-unit_in_row None is = tt
-unit_in_row (Some row) is = is
-
-table_is_bytes : list_all (λ row. are_bytes row.unit) unit_rows ≡ true
-unfolding unit_rows
-table_is_bytes = refl
-
-standard_bytes : (code : ℕ) → IfSome (standard_unit code) AreBytes
-standard_bytes code =
-    unit_in_row (find (λ row. row.code == code) unit_rows)
-    (of_found (λ row. AreBytes row.unit) (λ row. row.code == code) unit_rows (rows_are_bytes unit_rows table_is_bytes))
-
-pub unit_bytes : (entry : EntryParts) → IfSome (unit_of entry) AreBytes
-unit_bytes entry =
-    one_of_two (λ unit. IfSome unit AreBytes) (is_standard entry (standard_entry entry.code))
-    (standard_unit entry.code) None (standard_bytes entry.code) tt
+pub bit_name_bytes : (b : BitData) → AllByRecursion (λ b. AreBytes b.name) b.command.bits → b.bit < 2 ^ 64
+    → AreBytes (bit_name b)
+bit_name_bytes b names few =
+    let code : ℕ = b.command.entry.code in
+    let bits : List NamedBit = b.command.bits in
+    named_bytes (bit_text_in bits code b.bit) b.bit few
+    (either_bytes (name_of_bit b.bit bits) (bit_text code b.bit)
+    (found_bytes (find (λ named. nat_eq named.bit b.bit) bits)
+    (of_found (λ named. AreBytes named.name) (λ named. nat_eq named.bit b.bit) bits names))
+    (bit_text_bytes code b.bit))

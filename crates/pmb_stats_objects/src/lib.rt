@@ -3,7 +3,7 @@
 //!
 //! [`put_objects`] puts them out from [`Statistics`](pmb_stats::Statistics). A device's object may have
 //! more than waits at most, since it has each bit that was read set and the numbers of each command on
-//! each page. So it goes out item by item, and takes no memory. What is 0 or empty is left out.
+//! each page, in each phase. So it goes out item by item, and takes no memory. What is 0 or empty is left out.
 //! `specs/Objects` is the text that is put out, as a function of the facts. By the [`laws`] each line is
 //! one JSON object with distinct keys, and LF.
 #![tactic(auto)]

@@ -3,16 +3,15 @@
 //! Its rows: `tests/rows/stats.txt`, numbers.
 
 ghost use Rattle.std.specs.Prelude.{◌≡◌, ◌+◌, ◌*◌, ◌≤◌, ◌++◌, ◌∷◌, [], List, codes, length};
-ghost use Rattle.pmb_command.specs.Entry.{entry_parts};
 ghost use Rattle.pmb_json_text.specs.declared.item_order.ItemOrder.TheVariants.{Later};
 ghost use Rattle.pmb_json_text.specs.Member.{items_text, members_text};
+ghost use Rattle.pmb_keys.specs.CommandView.{command_parts};
 ghost use Rattle.pmb_mean.specs.Numbers.{NumberData, kept, mean};
 ghost use Rattle.pmb_mean.specs.machine.History.{HistoryStandsAt};
 ghost use Rattle.pmb_observed.specs.declared.spot.PageKey.{PageKey};
 ghost use Rattle.pmb_stats_objects.specs.Members.{fraction_member, text_member};
 ghost use Rattle.pmb_stats_objects.specs.Pages.{numbers_item};
 ghost use Rattle.pmb_stats_objects.specs.machine.Written.{Appends};
-ghost use Rattle.pmb_units.specs.Units.{unit_of as unit_of_entry};
 
 use crate::command::{COMMAND, begin_item};
 use crate::member::{
@@ -20,11 +19,11 @@ use crate::member::{
     append_text,
 };
 use arrayvec::ArrayVec;
-use pmb_command::Entry;
 use pmb_decimal::Digits;
 use pmb_json_text::{ItemOrder, NUMBER_MEMBER, number_member};
+use pmb_keys::Command;
 use pmb_mean::NumberHistory;
-use pmb_units::unit_of;
+use pmb_observed::PhaseKey;
 
 /// The most bytes of the numbers of a command.
 pub(crate) const NUMBERS: usize = COMMAND
@@ -39,22 +38,23 @@ pub(crate) fn append_numbers<const N: usize>(
     out: &mut ArrayVec<u8, N>,
     place: ItemOrder,
     digits: Digits,
-    entry: &Entry,
+    command: &Command,
+    phase: PhaseKey,
     history: &NumberHistory,
 )
     requires room { length out.old.items + NUMBERS ≤ N }
     ensures item { (page : PageKey) (numbers : List NumberData) → HistoryStandsAt history.now numbers
-        → out.new.items ≡ out.old.items ++ items_text place (numbers_item digits (record { page = page; entry = entry_parts entry.now; numbers = kept numbers }) ∷ []) }
+        → out.new.items ≡ out.old.items ++ items_text place (numbers_item digits (record { page = page; phase = phase; command = command_parts command.now; numbers = kept numbers }) ∷ []) }
     ensures short { length out.new.items ≤ length out.old.items + NUMBERS }
 {
-    begin_item(out, place, entry);
+    begin_item(out, place, &command.entry, phase);
     number_member(out, ItemOrder::Later, "count", history.count());
     append_count(out, ItemOrder::Later, "assumed", history.assumed());
     append_fraction(out, digits, "least", history.least());
     append_mean(out, digits, history);
     append_fraction(out, digits, "greatest", history.greatest());
     append_fraction(out, digits, "last", history.last());
-    append_unit(out, entry);
+    append_unit(out, command);
     append(out, b"}");
 }
 
@@ -73,11 +73,11 @@ fn append_mean<const N: usize>(out: &mut ArrayVec<u8, N>, digits: Digits, histor
 }
 
 /// Appends the unit, if the command has one.
-fn append_unit<const N: usize>(out: &mut ArrayVec<u8, N>, entry: &Entry)
+fn append_unit<const N: usize>(out: &mut ArrayVec<u8, N>, command: &Command)
     requires room { length out.old.items + TIME_MEMBER ≤ N }
-    ensures { Appends (text_member (codes "unit") (unit_of_entry (entry_parts entry.now))) 262 Later out.old.items Later out.new.items }
+    ensures { Appends (text_member (codes "unit") (command_parts command.now).unit) 262 Later out.old.items Later out.new.items }
 {
-    match unit_of(entry) {
+    match command.unit() {
         Some(unit) => append_text(out, "unit", Some(unit.as_bytes())),
         None => {}
     }

@@ -14,7 +14,7 @@ ghost use Rattle.pmb_json_text.specs.Member.{array_text, is_key, members_text};
 ghost use Rattle.pmb_keeper.specs.Setting.{Setting};
 ghost use Rattle.pmb_observed.specs.Observing.{observations};
 ghost use Rattle.pmb_observed.specs.Spot.{spot_at};
-ghost use Rattle.pmb_observed.specs.Told.{page_bits, page_numbers, spot_bits, spot_numbers};
+ghost use Rattle.pmb_observed.specs.Told.{code_bits, code_numbers, page_bits, page_numbers, spot_bits, spot_numbers};
 ghost use Rattle.pmb_stats_objects.specs.Members.{list_member};
 ghost use Rattle.pmb_stats_objects.specs.Pages.{bit_item, numbers_item, page_item, page_items};
 ghost use Rattle.pmb_stats_objects.specs.machine.Standing.{PagesStand};
@@ -26,7 +26,7 @@ use pmb_decimal::Digits;
 use pmb_io::laws::texts_add_up;
 use pmb_io::{RunFault, Sink, Waiting, make_room, put};
 use pmb_json_text::{ARRAY_MEMBER, ItemOrder, begin_array};
-use pmb_observed::{PageKey, Spot};
+use pmb_observed::{PageKey, PhaseKey, Spot, phase_at, phase_count, phases_of};
 use pmb_stats::Statistics;
 use pmb_table::DeviceProfile;
 
@@ -44,37 +44,72 @@ pub(crate) struct DevicePages<'s, 'p> {
 }
 
 impl DevicePages<'_, '_> {
-    /// A command of the device, on a page.
-    fn spot(&self, page: PageKey, code: u8) -> Spot
-        ensures { result ≡ spot_at self.now.addr code page }
+    /// A command of the device, on a page, in a phase.
+    fn spot(&self, page: PageKey, code: u8, phase: PhaseKey) -> Spot
+        ensures { result ≡ spot_at self.now.addr code page phase }
     {
         Spot {
             addr: self.addr,
             code,
             page,
+            phase,
         }
     }
 
-    /// Whether a command has bits on a page that were read set.
-    fn has_bits_at(&self, page: PageKey, code: u8) -> bool
+    /// Whether a command has bits that were read set on a page, in a phase.
+    fn has_bits_at(&self, page: PageKey, code: u8, phase: PhaseKey) -> bool
         ensures { (setting : Setting) (facts : List FactData) → PagesStand self.now setting facts
-            → result ≡ has_any (spot_bits setting.profile (observations setting facts) self.now.addr page code) }
+            → result ≡ has_any (spot_bits setting.profile (observations setting facts) self.now.addr page code phase) }
     {
-        match self.stats.register(self.spot(page, code)) {
+        match self.stats.register(self.spot(page, code, phase)) {
             Some(bits) => has_bit(bits),
             None => false,
         }
     }
 
-    /// Whether a command has numbers on a page.
-    fn has_numbers_at(&self, page: PageKey, code: u8) -> bool
+    /// Whether a command has numbers on a page, in a phase.
+    fn has_numbers_at(&self, page: PageKey, code: u8, phase: PhaseKey) -> bool
         ensures { (setting : Setting) (facts : List FactData) → PagesStand self.now setting facts
-            → result ≡ has_any (spot_numbers setting.profile (observations setting facts) self.now.addr page code) }
+            → result ≡ has_any (spot_numbers setting.profile (observations setting facts) self.now.addr page code phase) }
     {
-        match self.stats.numbers(self.spot(page, code)) {
+        match self.stats.numbers(self.spot(page, code, phase)) {
             Some(history) => has_number(history),
             None => false,
         }
+    }
+
+    /// Whether a command has bits that were read set on a page, in any phase.
+    fn has_code_bits(&self, page: PageKey, code: u8) -> bool
+        ensures { (setting : Setting) (facts : List FactData) → PagesStand self.now setting facts
+            → result ≡ has_any (code_bits setting.profile (observations setting facts) self.now.addr page code) }
+    {
+        let Some(command) = self.profile.command(code) else {
+            return false;
+        };
+        let phases = phases_of(self.profile, command);
+        for index in 0..phase_count(phases) {
+            if self.has_bits_at(page, code, phase_at(phases, index)) {
+                return true;
+            }
+        }
+        false
+    }
+
+    /// Whether a command has numbers on a page, in any phase.
+    fn has_code_numbers(&self, page: PageKey, code: u8) -> bool
+        ensures { (setting : Setting) (facts : List FactData) → PagesStand self.now setting facts
+            → result ≡ has_any (code_numbers setting.profile (observations setting facts) self.now.addr page code) }
+    {
+        let Some(command) = self.profile.command(code) else {
+            return false;
+        };
+        let phases = phases_of(self.profile, command);
+        for index in 0..phase_count(phases) {
+            if self.has_numbers_at(page, code, phase_at(phases, index)) {
+                return true;
+            }
+        }
+        false
     }
 
     /// Whether a page has bits that were read set.
@@ -83,7 +118,7 @@ impl DevicePages<'_, '_> {
             → result ≡ has_any (page_bits setting.profile (observations setting facts) self.now.addr page) }
     {
         for code in 0..CODES {
-            if self.has_bits_at(page, code as u8) {
+            if self.has_code_bits(page, code as u8) {
                 return true;
             }
         }
@@ -96,7 +131,7 @@ impl DevicePages<'_, '_> {
             → result ≡ has_any (page_numbers setting.profile (observations setting facts) self.now.addr page) }
     {
         for code in 0..CODES {
-            if self.has_numbers_at(page, code as u8) {
+            if self.has_code_numbers(page, code as u8) {
                 return true;
             }
         }
@@ -125,32 +160,58 @@ impl DevicePages<'_, '_> {
         false
     }
 
-    /// Puts out the bits of a command on a page.
+    /// Puts out the bits of a command on a page, in a phase.
     fn put_bits_at<W: Sink>(
         &self,
         page: PageKey,
         code: u8,
+        phase: PhaseKey,
         place: &mut ItemOrder,
         waiting: &mut Waiting,
         writer: &mut W,
     ) -> Result<(), RunFault>
         ensures puts { (setting : Setting) (facts : List FactData) → PagesStand self.now setting facts
-            → OnOk result (PutsItems (map bit_item (spot_bits setting.profile (observations setting facts) self.now.addr page code))
+            → OnOk result (PutsItems (map bit_item (spot_bits setting.profile (observations setting facts) self.now.addr page code phase))
             (W.told writer.old).held waiting.old.items place.old (W.told writer.new).held waiting.new.items place.new) }
         ensures failed { WriterTells (W.told writer.old) (W.told writer.new) result }
     {
         texts_add_up();
-        let Some(bits) = self.stats.register(self.spot(page, code)) else {
+        let Some(bits) = self.stats.register(self.spot(page, code, phase)) else {
             return Ok(());
         };
-        let Some(entry) = self.profile.entry(code) else {
+        let Some(command) = self.profile.command(code) else {
             return Ok(());
         };
-        put_bits(entry, bits, 16, place, waiting, writer)
+        put_bits(command, phase, bits, 16, place, waiting, writer)
     }
 
-    /// Puts out the numbers of a command on a page.
+    /// Puts out the numbers of a command on a page, in a phase.
     fn put_numbers_at<W: Sink>(
+        &self,
+        page: PageKey,
+        code: u8,
+        phase: PhaseKey,
+        place: &mut ItemOrder,
+        waiting: &mut Waiting,
+        writer: &mut W,
+    ) -> Result<(), RunFault>
+        ensures puts { (setting : Setting) (facts : List FactData) → PagesStand self.now setting facts
+            → OnOk result (PutsItems (map (numbers_item self.now.digits) (spot_numbers setting.profile (observations setting facts) self.now.addr page code phase))
+            (W.told writer.old).held waiting.old.items place.old (W.told writer.new).held waiting.new.items place.new) }
+        ensures failed { WriterTells (W.told writer.old) (W.told writer.new) result }
+    {
+        texts_add_up();
+        let Some(history) = self.stats.numbers(self.spot(page, code, phase)) else {
+            return Ok(());
+        };
+        let Some(command) = self.profile.command(code) else {
+            return Ok(());
+        };
+        put_command_numbers(command, phase, self.digits, history, place, waiting, writer)
+    }
+
+    /// Puts out the bits of a command on a page, phase by phase.
+    fn put_code_bits<W: Sink>(
         &self,
         page: PageKey,
         code: u8,
@@ -159,18 +220,44 @@ impl DevicePages<'_, '_> {
         writer: &mut W,
     ) -> Result<(), RunFault>
         ensures puts { (setting : Setting) (facts : List FactData) → PagesStand self.now setting facts
-            → OnOk result (PutsItems (map (numbers_item self.now.digits) (spot_numbers setting.profile (observations setting facts) self.now.addr page code))
+            → OnOk result (PutsItems (map bit_item (code_bits setting.profile (observations setting facts) self.now.addr page code))
             (W.told writer.old).held waiting.old.items place.old (W.told writer.new).held waiting.new.items place.new) }
         ensures failed { WriterTells (W.told writer.old) (W.told writer.new) result }
     {
         texts_add_up();
-        let Some(history) = self.stats.numbers(self.spot(page, code)) else {
+        let Some(command) = self.profile.command(code) else {
             return Ok(());
         };
-        let Some(entry) = self.profile.entry(code) else {
+        let phases = phases_of(self.profile, command);
+        for index in 0..phase_count(phases) {
+            self.put_bits_at(page, code, phase_at(phases, index), place, waiting, writer)?;
+        }
+        Ok(())
+    }
+
+    /// Puts out the numbers of a command on a page, phase by phase.
+    fn put_code_numbers<W: Sink>(
+        &self,
+        page: PageKey,
+        code: u8,
+        place: &mut ItemOrder,
+        waiting: &mut Waiting,
+        writer: &mut W,
+    ) -> Result<(), RunFault>
+        ensures puts { (setting : Setting) (facts : List FactData) → PagesStand self.now setting facts
+            → OnOk result (PutsItems (map (numbers_item self.now.digits) (code_numbers setting.profile (observations setting facts) self.now.addr page code))
+            (W.told writer.old).held waiting.old.items place.old (W.told writer.new).held waiting.new.items place.new) }
+        ensures failed { WriterTells (W.told writer.old) (W.told writer.new) result }
+    {
+        texts_add_up();
+        let Some(command) = self.profile.command(code) else {
             return Ok(());
         };
-        put_command_numbers(entry, self.digits, history, place, waiting, writer)
+        let phases = phases_of(self.profile, command);
+        for index in 0..phase_count(phases) {
+            self.put_numbers_at(page, code, phase_at(phases, index), place, waiting, writer)?;
+        }
+        Ok(())
     }
 
     /// Puts out the bits of a page.
@@ -188,7 +275,7 @@ impl DevicePages<'_, '_> {
     {
         texts_add_up();
         for code in 0..CODES {
-            self.put_bits_at(page, code as u8, place, waiting, writer)?;
+            self.put_code_bits(page, code as u8, place, waiting, writer)?;
         }
         Ok(())
     }
@@ -208,7 +295,7 @@ impl DevicePages<'_, '_> {
     {
         texts_add_up();
         for code in 0..CODES {
-            self.put_numbers_at(page, code as u8, place, waiting, writer)?;
+            self.put_code_numbers(page, code as u8, place, waiting, writer)?;
         }
         Ok(())
     }

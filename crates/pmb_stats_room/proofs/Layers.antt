@@ -3,7 +3,7 @@ use Rattle.std.proofs.Common.{◌≡◌, ℕ, ◌==◌, ◌&&◌, Some, None, re
 use Rattle.std.specs.Option.{option_and_then}
 use Rattle.std.specs.Vec.{with_item}
 use Rattle.pmb_observed.specs.declared.spot.Spot.{Spot}
-use Rattle.pmb_observed.specs.Spot.{same_page}
+use Rattle.pmb_observed.specs.Spot.{same_place}
 use Rattle.pmb_stats_room.specs.declared.command_room.CommandRoom.{CommandRoom}
 use Rattle.pmb_stats_room.specs.declared.device_room.DeviceRoom.{DeviceRoom}
 use Rattle.pmb_stats_room.specs.declared.room.Room.{Room}
@@ -14,24 +14,24 @@ use Rattle.pmb_stats_room.proofs.Taking.{index_lacks, index_takes}
 
 module _ (spot : Spot) (sight : Sight) (before : DeviceRoom) where
   pub device_takes : (i : ℕ) (x y : CommandRoom) → i ≡ spot.code → slice_get before.commands.items i ≡ Some x
-      → CommandSees spot.page sight x y
+      → CommandSees spot sight x y
       → DeviceSees spot sight before (record { commands = with_item before.commands i y })
   device_takes i x y here is sees = record {
     each = λ other.
-        subst (λ k. Takes ((k == other.code) && same_page spot.page other.page) sight (in_device before other)
+        subst (λ k. Takes ((k == other.code) && same_place spot other) sight (in_device before other)
         (in_device (record { commands = with_item before.commands i y }) other)) here
-        (index_takes (option_and_then (λ command. in_command command other.page)) before.commands.items i other.code
-        x y (same_page spot.page other.page) sight is (sees.each other.page));
+        (index_takes (option_and_then (λ command. in_command command other)) before.commands.items i other.code
+        x y (same_place spot other) sight is (sees.each other));
   }
 
   pub device_lacks : (i : ℕ) → i ≡ spot.code → slice_get before.commands.items i ≡ None
       → DeviceSees spot sight before before
   device_lacks i here is = record {
     each = λ other.
-        subst (λ k. Takes ((k == other.code) && same_page spot.page other.page) sight (in_device before other)
+        subst (λ k. Takes ((k == other.code) && same_place spot other) sight (in_device before other)
         (in_device before other)) here
-        (index_lacks (option_and_then (λ command. in_command command other.page)) before.commands.items i other.code
-        (same_page spot.page other.page) sight is refl);
+        (index_lacks (option_and_then (λ command. in_command command other)) before.commands.items i other.code
+        (same_place spot other) sight is refl);
   }
 
 module _ (spot : Spot) (sight : Sight) (before : Room) where
@@ -39,18 +39,18 @@ module _ (spot : Spot) (sight : Sight) (before : Room) where
       → DeviceSees spot sight x y → RoomSees spot sight before (record { devices = with_item before.devices i y })
   room_takes i x y here is sees = record {
     each = λ other.
-        subst (λ k. Takes ((k == other.addr) && ((spot.code == other.code) && same_page spot.page other.page)) sight
+        subst (λ k. Takes ((k == other.addr) && ((spot.code == other.code) && same_place spot other)) sight
         (in_room before other) (in_room (record { devices = with_item before.devices i y }) other)) here
         (index_takes (option_and_then (λ device. in_device device other)) before.devices.items i other.addr
-        x y ((spot.code == other.code) && same_page spot.page other.page) sight is (sees.each other));
+        x y ((spot.code == other.code) && same_place spot other) sight is (sees.each other));
   }
 
   pub room_lacks : (i : ℕ) → i ≡ spot.addr → slice_get before.devices.items i ≡ None
       → RoomSees spot sight before before
   room_lacks i here is = record {
     each = λ other.
-        subst (λ k. Takes ((k == other.addr) && ((spot.code == other.code) && same_page spot.page other.page)) sight
+        subst (λ k. Takes ((k == other.addr) && ((spot.code == other.code) && same_place spot other)) sight
         (in_room before other) (in_room before other)) here
         (index_lacks (option_and_then (λ device. in_device device other)) before.devices.items i other.addr
-        ((spot.code == other.code) && same_page spot.page other.page) sight is refl);
+        ((spot.code == other.code) && same_place spot other) sight is refl);
   }

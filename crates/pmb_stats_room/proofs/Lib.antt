@@ -1,6 +1,6 @@
 pub mod Lists
 pub mod Taking
-pub mod Places
+pub mod SpotPlaces
 pub mod Layers
 pub mod Beginnings
 pub mod Telling

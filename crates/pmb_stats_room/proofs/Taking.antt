@@ -16,14 +16,14 @@ use Rattle.pmb_stats_room.proofs.Lists.{slice_get-set_other, slice_get-set_same}
 -- where nothing is seen, all stays
 pub unchanged : (sight : Sight) (slot : Option Slot) → Takes false sight slot slot
 unchanged sight slot = record {
-  keeps = λ entry reads numbers is.
-      subst (λ rs. IsKept entry slot rs (numbers ++ [])) (sym (append-nil reads))
-      (subst (λ ns. IsKept entry slot reads ns) (sym (append-nil numbers)) is);
+  keeps = λ command reads numbers is.
+      subst (λ rs. IsKept command slot rs (numbers ++ [])) (sym (append-nil reads))
+      (subst (λ ns. IsKept command slot reads ns) (sym (append-nil numbers)) is);
 }
 
 -- where nothing is kept, nothing is taken
 pub nothing : (there : Bool) (sight : Sight) → Takes there sight None None
-nothing there sight = record { keeps = λ entry reads numbers is. record { kept = is.kept; seen = tt } }
+nothing there sight = record { keeps = λ command reads numbers is. record { kept = is.kept; seen = tt } }
 
 -- a slot takes it
 pub slot_takes : (sight : Sight) (before after : Slot) → kind_of after ≡ kind_of before
@@ -31,7 +31,7 @@ pub slot_takes : (sight : Sight) (before after : Slot) → kind_of after ≡ kin
     → HasSeen after (reads ++ reads_in sight) (numbers ++ numbers_in sight))
     → Takes true sight (Some before) (Some after)
 slot_takes sight before after same sees = record {
-  keeps = λ entry reads numbers is. record {
+  keeps = λ command reads numbers is. record {
     kept = ap Some same ∙ is.kept;
     seen = sees reads numbers is.seen;
   };

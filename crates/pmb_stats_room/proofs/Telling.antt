@@ -5,13 +5,12 @@ use Rattle.std.specs.Option.{MatchOption, IfSome}
 use denote.Bor.{Bor}
 use Rattle.std.proofs.lemmas.Option.{same_Some}
 use Rattle.pmb_command.specs.declared.entry.Kind.{Kind}
-use Rattle.pmb_command.specs.declared.entry.Kind.TheVariants.{Raw, Number, Vout, VoutSigned, Status}
-use Rattle.pmb_command.specs.Entry.{EntryParts}
-use Rattle.pmb_command.specs.Parts.{DeviceParts}
+use Rattle.pmb_command.specs.declared.entry.Kind.TheVariants.{Raw, Number, Vout, VoutSigned, Status, Text}
+use Rattle.pmb_command.specs.Parts.{CommandParts, DeviceParts}
 use Rattle.pmb_mean.specs.Numbers.{NumberData}
 use Rattle.pmb_observed.specs.declared.spot.Spot.{Spot}
 use Rattle.pmb_observed.specs.Observed.{NumberAt, Observation, ReadAt, numbers_at, reads_at}
-use Rattle.pmb_observed.specs.Spot.{entry_on, is_of, is_register, same_spot}
+use Rattle.pmb_observed.specs.Spot.{command_on, is_of, is_register, same_spot}
 use Rattle.pmb_stats_bits.specs.Bits.{RegisterRead}
 use Rattle.pmb_stats_bits.specs.declared.history.BitHistory.{BitHistory}
 use Rattle.pmb_stats_bits.specs.Standing.{RegisterStandsAt}
@@ -73,12 +72,12 @@ pub one_more : (spot : Spot) (sight : Sight) (before after : Room) → RoomSees 
     → RoomStandsAt after profile (told ++ observation spot sight ∷ [])
 one_more spot sight before after sees profile told stands = record {
   each = λ at small.
-      subst (λ rs. IsKept (entry_on profile at) (in_room after at) rs
+      subst (λ rs. IsKept (command_on profile at) (in_room after at) rs
       (numbers_at at (told ++ observation spot sight ∷ []))) (sym (reads_more spot at sight told))
-      (subst (λ ns. IsKept (entry_on profile at) (in_room after at)
+      (subst (λ ns. IsKept (command_on profile at) (in_room after at)
       (reads_at at told ++ (if same_spot spot at then reads_in sight else [])) ns)
       (sym (numbers_more spot at sight told))
-      ((sees.each at).keeps (entry_on profile at) (reads_at at told) (numbers_at at told) (stands.each at small)));
+      ((sees.each at).keeps (command_on profile at) (reads_at at told) (numbers_at at told) (stands.each at small)));
 }
 
 -- ---- what is told of a spot
@@ -90,25 +89,27 @@ register_kind (Number format) = (λ e. cc, λ e. refl)
 register_kind Vout = (λ e. cc, λ e. refl)
 register_kind VoutSigned = (λ e. cc, λ e. refl)
 register_kind Status = (λ e. refl, λ e. cc)
+register_kind Text = (λ e. cc, λ e. cc)
 
-register_there : (entry : Option EntryParts) → kept_of entry ≡ Some OfBits → is_of is_register entry ≡ true
+register_there : (command : Option CommandParts) → kept_of command ≡ Some OfBits → is_of is_register command ≡ true
 register_there None kept = cc
-register_there (Some entry) kept = (register_kind entry.kind).0 kept
+register_there (Some command) kept = (register_kind command.entry.kind).0 kept
 
-no_register : (entry : Option EntryParts) → kept_of entry ≡ Some OfValues → is_of is_register entry ≡ false
+no_register : (command : Option CommandParts) → kept_of command ≡ Some OfValues → is_of is_register command ≡ false
 no_register None kept = cc
-no_register (Some entry) kept = (register_kind entry.kind).1 kept
+no_register (Some command) kept = (register_kind command.entry.kind).1 kept
 
-pub register_told : (entry : Option EntryParts) (slot : Slot) (reads : List RegisterRead) (numbers : List NumberData)
-    (found : Option (Bor (List BitHistory))) → option_map (λ bits. bits.now) found ≡ bits_of slot
-    → IfSome found (λ bits. length bits.now ≡ 16) → IsKept entry (Some slot) reads numbers
-    → MatchOption found (is_of is_register entry ≡ false)
-    (λ bits. (is_of is_register entry ≡ true) × RegisterStandsAt bits.now reads × (length bits.now ≡ 16))
-register_told entry (Bits bits) reads numbers None is sixteen kept = cc
-register_told entry (Bits bits) reads numbers (Some found) is sixteen kept = (
-  register_there entry (sym kept.kept),
+pub register_told : (command : Option CommandParts) (slot : Slot) (reads : List RegisterRead)
+    (numbers : List NumberData) (found : Option (Bor (List BitHistory)))
+    → option_map (λ bits. bits.now) found ≡ bits_of slot
+    → IfSome found (λ bits. length bits.now ≡ 16) → IsKept command (Some slot) reads numbers
+    → MatchOption found (is_of is_register command ≡ false)
+    (λ bits. (is_of is_register command ≡ true) × RegisterStandsAt bits.now reads × (length bits.now ≡ 16))
+register_told command (Bits bits) reads numbers None is sixteen kept = cc
+register_told command (Bits bits) reads numbers (Some found) is sixteen kept = (
+  register_there command (sym kept.kept),
   subst (λ (bs : List BitHistory). RegisterStandsAt bs reads) (sym (same_Some found.now bits is)) kept.seen.stand,
   sixteen,
 )
-register_told entry (Values history) reads numbers None is sixteen kept = no_register entry (sym kept.kept)
-register_told entry (Values history) reads numbers (Some found) is sixteen kept = cc
+register_told command (Values history) reads numbers None is sixteen kept = no_register command (sym kept.kept)
+register_told command (Values history) reads numbers (Some found) is sixteen kept = cc

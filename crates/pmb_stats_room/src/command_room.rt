@@ -2,28 +2,28 @@
 //!
 //! Its rows: `tests/rows/stats.txt`.
 
-ghost use Rattle.std.specs.Prelude.{◌≡◌, [], IfOk, None, Some, if◌then◌else◌, option_map};
-ghost use Rattle.pmb_command.specs.Entry.{entry_parts};
-ghost use Rattle.pmb_json_objects.specs.Seen.{entry_of};
-ghost use Rattle.pmb_stats_room.specs.machine.Beginning.{AreFresh, BeginsCommand, BeginsEntry, HasFreshSlots};
+ghost use Rattle.std.specs.Prelude.{◌≡◌, [], IfOk, Some, option_map};
+ghost use Rattle.pmb_json_objects.specs.Seen.{command_of};
+ghost use Rattle.pmb_keys.specs.CommandView.{command_parts};
+ghost use Rattle.pmb_stats_room.specs.machine.Beginning.{AreFresh, BeginsCommand, HasFreshSlots};
 ghost use Rattle.pmb_stats_room.specs.machine.Finding.{in_command};
 ghost use Rattle.pmb_stats_room.specs.machine.Seeing.{CommandSees, SlotsSee};
 ghost use Rattle.pmb_stats_room.specs.machine.Sights.{IsShort};
 
-use crate::pages::{page_count, place};
+use crate::places::Places;
 use crate::sight::Sight;
 use crate::slot::{Slot, SlotKind, kept_as};
-use pmb_command::Entry;
-use pmb_observed::PageKey;
+use pmb_keys::Command;
+use pmb_observed::Spot;
 use pmb_table::DeviceProfile;
 use std::alloc::{AllocError, Global};
 
 /// What is kept of a command of a device.
 #[derive(Drop)]
 pub(crate) struct CommandRoom {
-    /// How many pages the device has, if the command is paged.
-    pages: Option<u8>,
-    /// What is kept of each page, in its place; nothing of a command that has neither bits nor numbers.
+    /// How many pages and phases there are.
+    places: Places,
+    /// What is kept of each, in its place; nothing of a command that has neither bits nor numbers.
     slots: Vec<Slot>,
 }
 
@@ -34,10 +34,10 @@ impl CommandRoom {
         device: &DeviceProfile,
         code: u8,
     ) -> Result<CommandRoom, AllocError>
-        ensures { IfOk result (BeginsCommand device.now (entry_of (Some device.now) code)) }
+        ensures { IfOk result (BeginsCommand device.now (command_of (Some device.now) code)) }
     {
-        match device.entry(code) {
-            Some(entry) => CommandRoom::of_entry(alloc, device.pages(), entry),
+        match device.command(code) {
+            Some(command) => CommandRoom::of_command(alloc, device, command),
             None => Ok(CommandRoom::empty(alloc)),
         }
     }
@@ -47,64 +47,64 @@ impl CommandRoom {
         ensures { result.slots.items ≡ [] }
     {
         CommandRoom {
-            pages: None,
+            places: Places {
+                pages: None,
+                phases: None,
+            },
             slots: Vec::new(alloc),
         }
     }
 
-    /// Room for a command of a device with so many pages.
-    fn of_entry(alloc: Global, pages: u8, entry: &Entry) -> Result<CommandRoom, AllocError>
-        ensures { IfOk result (BeginsEntry pages (entry_parts entry.now)) }
+    /// Room for a command of a device.
+    fn of_command(
+        alloc: Global,
+        device: &DeviceProfile,
+        command: &Command,
+    ) -> Result<CommandRoom, AllocError>
+        ensures { IfOk result (BeginsCommand device.now (Some (command_parts command.now))) }
     {
-        match kept_as(entry.kind) {
-            Some(kind) => CommandRoom::of_kind(alloc, paged_by(entry.paged, pages), kind),
+        match kept_as(command.entry.kind) {
+            Some(kind) => CommandRoom::of_kind(alloc, Places::of(device, command), kind),
             None => Ok(CommandRoom::empty(alloc)),
         }
     }
 
     /// Room for what is kept of a command.
-    fn of_kind(alloc: Global, pages: Option<u8>, kind: SlotKind) -> Result<CommandRoom, AllocError>
-        ensures { IfOk result (HasFreshSlots kind pages) }
+    fn of_kind(alloc: Global, places: Places, kind: SlotKind) -> Result<CommandRoom, AllocError>
+        ensures { IfOk result (HasFreshSlots kind places) }
     {
-        let slots = fresh_slots(alloc, kind, page_count(pages))?;
-        Ok(CommandRoom { pages, slots })
+        let slots = fresh_slots(alloc, kind, places.count())?;
+        Ok(CommandRoom { places, slots })
     }
 
-    /// What is kept of a page.
-    pub(crate) fn slot(&self, page: PageKey) -> Option<&Slot>
-        ensures { option_map (λ slot. slot.now) result ≡ in_command self.now page }
+    /// What is kept of a spot of this command.
+    pub(crate) fn slot(&self, spot: Spot) -> Option<&Slot>
+        ensures { option_map (λ slot. slot.now) result ≡ in_command self.now spot }
     {
-        let place = place(self.pages, page)?;
+        let place = self.places.place(spot)?;
         self.slots.get(place)
     }
 
-    /// Takes what is seen on a page.
-    pub(crate) fn see(&mut self, page: PageKey, sight: Sight<'_>)
+    /// Takes what is seen of a spot of this command.
+    pub(crate) fn see(&mut self, spot: Spot, sight: Sight<'_>)
         requires { IsShort sight }
-        ensures { CommandSees page sight.entry self.old self.new }
+        ensures { CommandSees spot sight.entry self.old self.new }
     {
-        if let Some(place) = place(self.pages, page) {
+        if let Some(place) = self.places.place(spot) {
             self.see_at(place, sight);
         }
     }
 
-    /// Takes what is seen on the page of a place.
+    /// Takes what is seen of the spot of a place.
     fn see_at(&mut self, place: usize, sight: Sight<'_>)
         requires { IsShort sight }
-        ensures pages { self.new.pages ≡ self.old.pages }
+        ensures places { self.new.places ≡ self.old.places }
         ensures slots { SlotsSee place sight.entry self.old.slots.items self.new.slots.items }
     {
         if let Some(slot) = self.slots.get_mut(place) {
             slot.see(sight);
         }
     }
-}
-
-/// How many pages, if a command is paged.
-fn paged_by(paged: bool, pages: u8) -> Option<u8>
-    ensures { result ≡ (if paged then Some pages else None) }
-{
-    if paged { Some(pages) } else { None }
 }
 
 /// So many slots, in which nothing was seen.

@@ -57,7 +57,7 @@ impl DeviceRoom {
         ensures { option_map (λ slot. slot.now) result ≡ in_device self.now spot }
     {
         let command = self.commands.get(usize::from(spot.code))?;
-        command.slot(spot.page)
+        command.slot(spot)
     }
 
     /// Takes what is seen of a spot of this device.
@@ -66,7 +66,7 @@ impl DeviceRoom {
         ensures { DeviceSees spot sight.entry self.old self.new }
     {
         if let Some(command) = self.commands.get_mut(usize::from(spot.code)) {
-            command.see(spot.page, sight);
+            command.see(spot, sight);
         }
     }
 }

@@ -26,8 +26,8 @@ use std::alloc::{AllocError, Global};
 /// How many numbers an address can be, of which one has seven bits.
 const ADDRESSES: usize = 256;
 
-/// What is kept of each command of a profile's devices, page by page. It stands at what was seen since it
-/// was made.
+/// What is kept of each command of a profile's devices, page by page and phase by phase. It stands
+/// at what was seen since it was made.
 #[derive(Drop)]
 pub struct Room {
     /// Of each device by its address.

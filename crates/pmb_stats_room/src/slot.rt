@@ -37,7 +37,7 @@ pub(crate) fn kept_as(kind: Kind) -> Option<SlotKind>
     ensures { result ≡ kept_as kind }
 {
     match kind {
-        Kind::Raw => None,
+        Kind::Raw | Kind::Text => None,
         Kind::Number(_) | Kind::Vout | Kind::VoutSigned => Some(SlotKind::OfValues),
         Kind::Status => Some(SlotKind::OfBits),
     }

@@ -7,3 +7,4 @@ pub mod Spots
 pub mod Registers
 pub mod Puts
 pub mod Items
+pub mod Phases

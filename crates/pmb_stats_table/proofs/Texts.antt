@@ -1,10 +1,13 @@
--- Texts of the first elements of a list, with that of one more.
+-- Texts of the first elements of a list, with that of one more; cells after others.
 use Rattle.std.proofs.Common.{◌≡◌, ℕ, zero, suc, ◌+◌, ◌<◌, List, [], ◌∷◌, ◌++◌, length, get_or, take, ap, sym, ◌∙◌}
 use Rattle.std.proofs.Common.{◌≤◌, Some, slice_get, take_all, add-one, arith}
 use Rattle.std.proofs.lemmas.Option.{get_or_from_slice_get, slice_get_within}
 use Rattle.std.specs.List.{flat_map, range_with_len}
+use Rattle.std.proofs.lemmas.Grind.{flat_map-append}
 use Rattle.std.proofs.lemmas.List.{flat_map_more, take_more}
 use Rattle.pmb_log_data.specs.Appends.{Appends}
+use Rattle.pmb_log_data.proofs.Texts.{called, then}
+use Rattle.pmb_stats_table.specs.Row.{after_gap, after_gaps}
 
 pub texts_more : {X A : Type 0} (f : X → List A) (xs : List X) (i : ℕ) (d : X) → i < length xs
     → flat_map f (take i xs) ++ f (get_or xs i d) ≡ flat_map f (take (i + 1) xs)
@@ -39,3 +42,8 @@ elements_more {X} f xs i x is =
 pub all_elements : {X A : Type 0} (f : X → List A) (xs : List X) (i : ℕ) → length xs ≤ i
     → flat_map f (take i xs) ≡ flat_map f xs
 all_elements {X} f xs i past = ap (λ (ys : List X). flat_map f ys) (take_all i xs past)
+
+-- cells, and others after them
+pub after_cells : (xs ys : List (List ℕ)) {m n : ℕ} {a b c : List ℕ} → Appends (after_gaps xs) m a b
+    → Appends (after_gaps ys) n b c → Appends (after_gaps (xs ++ ys)) (m + n) a c
+after_cells xs ys first second = called (sym (flat_map-append after_gap xs ys)) (then first second)

@@ -24,6 +24,7 @@ mod pages;
 mod put_bits;
 mod put_numbers;
 mod row;
+mod spot;
 mod table;
 mod times;
 mod total;

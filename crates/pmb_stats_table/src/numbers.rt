@@ -3,7 +3,7 @@
 //! Its rows: `tests/rows/stats.txt`.
 
 ghost use Rattle.std.specs.Prelude.{◌≡◌, ◌+◌, ◌≤◌, List, decimal, length};
-ghost use Rattle.pmb_command.specs.Entry.{entry_parts};
+ghost use Rattle.pmb_keys.specs.CommandView.{command_parts};
 ghost use Rattle.pmb_log_data.specs.Appends.{Appends};
 ghost use Rattle.pmb_log_data.specs.Text.{or_nothing};
 ghost use Rattle.pmb_mean.specs.MeanText.{mean_text, some_text};
@@ -11,19 +11,18 @@ ghost use Rattle.pmb_mean.specs.Numbers.{NumberData, kept};
 ghost use Rattle.pmb_mean.specs.machine.History.{HistoryStandsAt};
 ghost use Rattle.pmb_stats_table.specs.Rows.{count_text, number_heading, number_line, number_row};
 ghost use Rattle.pmb_stats_table.specs.Widths.{IsNarrow};
-ghost use Rattle.pmb_units.specs.Units.{unit_of};
 
-use crate::pages::page_sign;
-use crate::row::{LINE, Row, append_last, append_left, append_right, append_row};
+use crate::pages::{page_sign, phase_sign};
+use crate::row::{LINE, Row, append_last, append_right, append_row};
+use crate::spot::append_spot;
 use crate::widths::Widths;
 use arrayvec::ArrayVec;
 use itoa::Buffer;
-use pmb_command::Entry;
 use pmb_decimal::{Digits, append_decimal};
+use pmb_keys::Command;
 use pmb_log_data::append_number;
 use pmb_mean::NumberHistory;
-use pmb_observed::PageKey;
-use pmb_units::unit_of;
+use pmb_observed::Spot;
 use pmb_value::Quantity;
 
 /// The text of a decimal.
@@ -33,6 +32,7 @@ type Decimal = ArrayVec<u8, 33>;
 #[derive(Clone, Copy)]
 struct NumberTexts<'t> {
     page: &'t [u8],
+    phase: &'t [u8],
     command: &'t [u8],
     count: &'t [u8],
     assumed: &'t [u8],
@@ -51,6 +51,7 @@ pub(crate) fn append_number_heading<const N: usize>(out: &mut ArrayVec<u8, N>, w
 {
     let texts = NumberTexts {
         page: b"page",
+        phase: b"phase",
         command: b"command",
         count: b"count",
         assumed: b"assumed",
@@ -63,22 +64,23 @@ pub(crate) fn append_number_heading<const N: usize>(out: &mut ArrayVec<u8, N>, w
     append_number_line(out, widths, texts);
 }
 
-/// Appends the line of the numbers of a command, on a page.
+/// Appends the line of the numbers of the command at a spot.
 pub(crate) fn append_number_row<const N: usize>(
     out: &mut ArrayVec<u8, N>,
     widths: Widths,
     digits: Digits,
-    page: PageKey,
-    entry: &Entry,
+    spot: Spot,
+    command: &Command,
     history: &NumberHistory,
 )
     requires narrow { IsNarrow widths }
     requires room { length out.old.items + LINE ≤ N }
     ensures row { (numbers : List NumberData) → HistoryStandsAt history.now numbers
-        → Appends (number_row widths digits (record { page = page; entry = entry_parts entry.now; numbers = kept numbers })) LINE out.old.items out.new.items }
+        → Appends (number_row widths digits (record { page = spot.page; phase = spot.phase; command = command_parts command.now; numbers = kept numbers })) LINE out.old.items out.new.items }
     ensures longer { length out.new.items ≤ length out.old.items + LINE }
 {
-    let page = page_sign(page);
+    let page = page_sign(spot.page);
+    let phase = phase_sign(spot.phase);
     let mut count = Buffer::new();
     let assumed = count_text(history.assumed());
     let least = some_text(digits, history.least());
@@ -87,14 +89,15 @@ pub(crate) fn append_number_row<const N: usize>(
     let last = some_text(digits, history.last());
     let texts = NumberTexts {
         page: page.as_slice(),
-        command: entry.name.as_bytes(),
+        phase: phase.as_slice(),
+        command: command.entry.name.as_bytes(),
         count: count.format(history.count()).as_bytes(),
         assumed: assumed.as_slice(),
         least: least.as_slice(),
         mean: mean.as_slice(),
         greatest: greatest.as_slice(),
         last: last.as_slice(),
-        unit: unit_text(entry),
+        unit: unit_text(command),
     };
     append_number_line(out, widths, texts);
 }
@@ -107,6 +110,7 @@ fn append_number_line<const N: usize>(
 )
     requires narrow { IsNarrow widths }
     requires page { length texts.page.now ≤ 4 }
+    requires phase { length texts.phase.now ≤ 5 }
     requires command { length texts.command.now ≤ 32 }
     requires count { length texts.count.now ≤ 20 }
     requires assumed { length texts.assumed.now ≤ 20 }
@@ -114,13 +118,12 @@ fn append_number_line<const N: usize>(
     requires mean { length texts.mean.now ≤ 33 }
     requires greatest { length texts.greatest.now ≤ 33 }
     requires last { length texts.last.now ≤ 33 }
-    requires unit { length texts.unit.now ≤ 5 }
+    requires unit { length texts.unit.now ≤ 16 }
     requires room { length out.old.items + LINE ≤ N }
-    ensures { Appends (number_line widths texts.entry.page.now texts.entry.command.now texts.entry.count.now texts.entry.assumed.now texts.entry.least.now texts.entry.mean.now texts.entry.greatest.now texts.entry.last.now texts.entry.unit.now) LINE out.old.items out.new.items }
+    ensures { Appends (number_line widths texts.entry.page.now texts.entry.phase.now texts.entry.command.now texts.entry.count.now texts.entry.assumed.now texts.entry.least.now texts.entry.mean.now texts.entry.greatest.now texts.entry.last.now texts.entry.unit.now) LINE out.old.items out.new.items }
 {
     let mut row = Row::new();
-    append_right(&mut row, 4, texts.page);
-    append_left(&mut row, widths.command, texts.command);
+    append_spot(&mut row, widths, texts.page, texts.phase, texts.command);
     append_right(&mut row, 8, texts.count);
     append_right(&mut row, 7, texts.assumed);
     append_right(&mut row, 10, texts.least);
@@ -166,11 +169,11 @@ fn mean_text(digits: Digits, history: &NumberHistory) -> Decimal
 }
 
 /// The unit of a command; nothing where it has none.
-fn unit_text(entry: &Entry) -> &'static [u8]
-    ensures text { result.now ≡ or_nothing (unit_of (entry_parts entry.now)) }
-    ensures short { length result.now ≤ 5 }
+fn unit_text(command: &Command) -> &[u8]
+    ensures text { result.now ≡ or_nothing (command_parts command.now).unit }
+    ensures short { length result.now ≤ 16 }
 {
-    match unit_of(entry) {
+    match command.unit() {
         Some(unit) => unit.as_bytes(),
         None => b"",
     }

@@ -1,20 +1,20 @@
-//! Pages, in the order of output.
+//! Pages and phases, and the command at a spot.
 //!
-//! Its rows: `tests/rows/stats.txt`, pages.
+//! Its rows: `tests/rows/stats.txt`, pages and phases.
 
 ghost use Rattle.std.specs.Prelude.{◌≡◌, ◌+◌, ◌<◌, ◌≤◌, length, option_map, slice_get, Some};
-ghost use Rattle.pmb_command.specs.Entry.{entry_parts};
 ghost use Rattle.pmb_command.specs.Parts.{device_with};
-ghost use Rattle.pmb_json_objects.specs.Seen.{entry_of};
+ghost use Rattle.pmb_json_objects.specs.Seen.{command_of};
+ghost use Rattle.pmb_keys.specs.CommandView.{command_parts};
 ghost use Rattle.pmb_observed.specs.Spot.{page_keys};
 ghost use Rattle.pmb_observed.specs.Told.{device_pages};
-ghost use Rattle.pmb_stats_table.specs.Rows.{page_sign};
+ghost use Rattle.pmb_stats_table.specs.Rows.{page_sign, phase_sign};
 
 use arrayvec::ArrayVec;
 use itoa::Buffer;
-use pmb_command::Entry;
+use pmb_keys::Command;
 use pmb_log_data::append;
-use pmb_observed::{PageKey, Spot};
+use pmb_observed::{PageKey, PhaseKey, Spot};
 use pmb_table::laws::accepted_device;
 use pmb_table::{DeviceProfile, Profile};
 
@@ -32,6 +32,21 @@ pub(crate) fn page_sign(page: PageKey) -> ArrayVec<u8, 4>
         PageKey::AllPages => append(&mut sign, b"*"),
         PageKey::UnknownPage => append(&mut sign, b"?"),
         PageKey::Unpaged => {}
+    }
+    sign
+}
+
+/// What stands for a phase in its column.
+pub(crate) fn phase_sign(phase: PhaseKey) -> ArrayVec<u8, 4>
+    ensures sign { result.items ≡ phase_sign phase }
+    ensures short { length result.items ≤ 4 }
+{
+    let mut sign = ArrayVec::<u8, 4>::new();
+    match phase {
+        PhaseKey::OnPhase(phase) => append(&mut sign, Buffer::new().format(phase).as_bytes()),
+        PhaseKey::AllPhases => append(&mut sign, b"*"),
+        PhaseKey::UnknownPhase => append(&mut sign, b"?"),
+        PhaseKey::Unphased => {}
     }
     sign
 }
@@ -88,11 +103,11 @@ fn page_at(pages: u8, index: u8) -> PageKey
 }
 
 /// The command at a spot.
-pub(crate) fn entry_at(profile: &Profile, spot: Spot) -> Option<&Entry>
-    ensures { option_map (λ e. entry_parts e.now) result ≡ entry_of (device_with spot.addr profile.now) spot.code }
+pub(crate) fn command_at(profile: &Profile, spot: Spot) -> Option<&Command>
+    ensures { option_map (λ c. command_parts c.now) result ≡ command_of (device_with spot.addr profile.now) spot.code }
 {
     match profile.device(spot.addr) {
-        Some(device) => device.entry(spot.code),
+        Some(device) => device.command(spot.code),
         None => None,
     }
 }

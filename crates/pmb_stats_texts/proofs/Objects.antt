@@ -1,9 +1,8 @@
 -- Facts of which the same is told have the same objects: for the law `one_objects`.
 use Rattle.std.proofs.Common.{◌≡◌, ℕ, ◌<◌, Option, List, [], ◌∷◌, ◌++◌, ap, arith, codes, length, ◌∙◌}
 use Rattle.std.specs.List.{range_with_len}
-use Rattle.pmb_command.specs.Entry.{EntryParts}
-use Rattle.pmb_command.specs.Parts.{DeviceParts}
-use Rattle.pmb_command.specs.StatusBits.{bit_text}
+use Rattle.pmb_command.specs.Parts.{CommandParts, DeviceParts}
+use Rattle.pmb_command_data.specs.Bits.{bit_text_in}
 use Rattle.pmb_facts.specs.Fact.{FactData}
 use Rattle.pmb_io.specs.Count.{capped}
 use Rattle.pmb_json_objects.specs.Members.{device_members, kind_member}
@@ -16,6 +15,7 @@ use Rattle.pmb_mean.specs.Alike.{TellNumbersAlike}
 use Rattle.pmb_mean.specs.Numbers.{NumberData, count_assumed}
 use Rattle.pmb_note.specs.Note.{named_bit}
 use Rattle.pmb_observed.specs.declared.spot.PageKey.{PageKey}
+use Rattle.pmb_observed.specs.declared.spot.PhaseKey.{PhaseKey}
 use Rattle.pmb_observed.specs.Observed.{Observation}
 use Rattle.pmb_observed.specs.Observing.{observations}
 use Rattle.pmb_observed.specs.Told.{device_pages}
@@ -32,46 +32,47 @@ use Rattle.pmb_stats_room.specs.Alike.{TellSpotsAlike}
 use Rattle.pmb_stats_texts.proofs.Counts as counted
 use Rattle.pmb_stats_texts.proofs.Lists.{both, everywhere, flat_alike, in_range, some_alike}
 use Rattle.pmb_stats_texts.proofs.Told.{bit_of, numbers_of, page_bits_alike, page_numbers_alike}
-use Rattle.pmb_units.specs.Units.{unit_of}
 
 -- ---- items
 
--- a bit, by its count and times
-abbrev bit_object : EntryParts → ℕ → ℕ → Option (List ℕ) → Option (List ℕ) → Option (List ℕ) → Json
-bit_object entry bit n first last gone = object_of
-    (command_members entry ++ named (codes "bit") (string (named_bit (bit_text entry.code bit) bit))
-    ∷ named (codes "count") (count n)
-    ∷ text_member (codes "first") first ++ text_member (codes "last") last ++ text_member (codes "gone") gone)
+module _ (page : PageKey) (phase : PhaseKey) (command : CommandParts) where
+  -- a bit, by its count and times
+  abbrev bit_object : ℕ → ℕ → Option (List ℕ) → Option (List ℕ) → Option (List ℕ) → Json
+  bit_object bit n first last gone = object_of
+      (command_members command.entry phase
+      ++ (named (codes "bit") (string (named_bit (bit_text_in command.bits command.entry.code bit) bit))
+      ∷ named (codes "count") (count n)
+      ∷ text_member (codes "first") first ++ text_member (codes "last") last ++ text_member (codes "gone") gone))
 
-bit_shown : (page : PageKey) (entry : EntryParts) (bit : ℕ) (reads others : List RegisterRead)
-    → TellBitAlike reads others bit → bit_item (bit_of page entry bit reads) ≡ bit_item (bit_of page entry bit others)
-bit_shown page entry bit reads others alike =
-    ap (λ n. bit_object entry bit n (first_set reads bit) (last_set reads bit) (gone_time reads bit)) alike.count
-    ∙ (ap (λ t. bit_object entry bit (capped (set_count others bit)) t (last_set reads bit) (gone_time reads bit))
-    alike.first
-    ∙ (ap (λ t. bit_object entry bit (capped (set_count others bit)) (first_set others bit) t (gone_time reads bit))
-    alike.last
-    ∙ ap (λ t. bit_object entry bit (capped (set_count others bit)) (first_set others bit) (last_set others bit) t)
-    alike.gone))
+  bit_shown : (bit : ℕ) (reads others : List RegisterRead) → TellBitAlike reads others bit
+      → bit_item (bit_of page phase command bit reads) ≡ bit_item (bit_of page phase command bit others)
+  bit_shown bit reads others alike =
+      ap (λ n. bit_object bit n (first_set reads bit) (last_set reads bit) (gone_time reads bit)) alike.count
+      ∙ (ap (λ t. bit_object bit (capped (set_count others bit)) t (last_set reads bit) (gone_time reads bit))
+      alike.first
+      ∙ (ap (λ t. bit_object bit (capped (set_count others bit)) (first_set others bit) t (gone_time reads bit))
+      alike.last
+      ∙ ap (λ t. bit_object bit (capped (set_count others bit)) (first_set others bit) (last_set others bit) t)
+      alike.gone))
 
--- the first members of numbers
-abbrev counts_first : EntryParts → ℕ → ℕ → List Member
-counts_first entry n assumed =
-    command_members entry ++ named (codes "count") (count n) ∷ count_member (codes "assumed") assumed
+  -- the first members of numbers, after those of their command
+  abbrev counts_first : ℕ → ℕ → List Member
+  counts_first n assumed = named (codes "count") (count n) ∷ count_member (codes "assumed") assumed
 
-numbers_shown : (digits : ℕ) (page : PageKey) (entry : EntryParts) (numbers others : List NumberData)
-    → TellNumbersAlike numbers others
-    → numbers_item digits (numbers_of page entry numbers) ≡ numbers_item digits (numbers_of page entry others)
-numbers_shown digits page entry numbers others alike =
-    let counts : counts_first entry (length numbers) (count_assumed numbers)
-    ≡ counts_first entry (length others) (count_assumed others)
-    = ap (λ n. counts_first entry n (count_assumed numbers)) alike.count
-    ∙ ap (counts_first entry (length others)) alike.assumed in
-    ap (λ (members : List Member). object_of (members ++ text_member (codes "unit") (unit_of entry)))
-    (both (both (both (both counts (ap (fraction_member digits (codes "least")) alike.least))
-    (ap (fraction_member digits (codes "mean")) alike.mean))
-    (ap (fraction_member digits (codes "greatest")) alike.greatest))
-    (ap (fraction_member digits (codes "last")) alike.last))
+  numbers_shown : (digits : ℕ) (numbers others : List NumberData) → TellNumbersAlike numbers others
+      → numbers_item digits (numbers_of page phase command numbers)
+      ≡ numbers_item digits (numbers_of page phase command others)
+  numbers_shown digits numbers others alike =
+      let counts : counts_first (length numbers) (count_assumed numbers)
+      ≡ counts_first (length others) (count_assumed others)
+      = ap (λ n. counts_first n (count_assumed numbers)) alike.count
+      ∙ ap (counts_first (length others)) alike.assumed in
+      ap (λ (members : List Member). object_of (command_members command.entry phase
+      ++ (members ++ text_member (codes "unit") command.unit)))
+      (both (both (both (both counts (ap (fraction_member digits (codes "least")) alike.least))
+      (ap (fraction_member digits (codes "mean")) alike.mean))
+      (ap (fraction_member digits (codes "greatest")) alike.greatest))
+      (ap (fraction_member digits (codes "last")) alike.last))
 
 -- ---- pages
 
@@ -82,8 +83,8 @@ module _ (digits : ℕ) (profile : List DeviceParts) (told others : List Observa
       ap (page_if page)
       (both (ap (list_member (codes "bits")) (page_bits_alike bit_item bit_shown profile told others alike addr
       small page))
-      (ap (list_member (codes "numbers")) (page_numbers_alike (numbers_item digits) (numbers_shown digits) profile told
-      others alike addr small page)))
+      (ap (list_member (codes "numbers")) (page_numbers_alike (numbers_item digits)
+      (λ page phase command. numbers_shown page phase command digits) profile told others alike addr small page)))
 
   pages_shown : page_items digits profile told addr ≡ page_items digits profile others addr
   pages_shown =

@@ -3,9 +3,8 @@ use Rattle.std.proofs.Common.{◌≡◌, ℕ, ◌<◌, ◌&&◌, Option, Some, L
 use Rattle.std.proofs.Common.{decimal, length, refl, sym, ◌∙◌}
 use Rattle.std.specs.List.{range_with_len}
 use Rattle.std.proofs.lemmas.List.Folds.{flat_map-map}
-use Rattle.pmb_command.specs.Entry.{EntryParts}
-use Rattle.pmb_command.specs.Parts.{DeviceParts}
-use Rattle.pmb_command.specs.StatusBits.{bit_text}
+use Rattle.pmb_command.specs.Parts.{CommandParts, DeviceParts}
+use Rattle.pmb_command_data.specs.Bits.{bit_text_in}
 use Rattle.pmb_facts.specs.Fact.{FactData}
 use Rattle.pmb_io.specs.Count.{capped}
 use Rattle.pmb_json_objects.specs.Object.{is_wanted}
@@ -17,6 +16,7 @@ use Rattle.pmb_mean.specs.MeanText.{some_text}
 use Rattle.pmb_mean.specs.Numbers.{NumberData, count_assumed, greatest, last_value, least, mean}
 use Rattle.pmb_note.specs.Note.{named_bit}
 use Rattle.pmb_observed.specs.declared.spot.PageKey.{PageKey}
+use Rattle.pmb_observed.specs.declared.spot.PhaseKey.{PhaseKey}
 use Rattle.pmb_observed.specs.Observing.{first_time, last_time, observations}
 use Rattle.pmb_observed.specs.Told.{device_bits, device_numbers}
 use Rattle.pmb_quantity.specs.Fraction.{Fraction}
@@ -28,48 +28,48 @@ use Rattle.pmb_stats_counts.specs.Counts.{has_come, of_device}
 use Rattle.pmb_stats_table.specs.Counts.{counted as counted_text, counted_if}
 use Rattle.pmb_stats_table.specs.Row.{after_gap, after_gaps, headed}
 use Rattle.pmb_stats_table.specs.Rows.{bit_heading, bit_line, bit_row, count_text, number_heading, number_line}
-use Rattle.pmb_stats_table.specs.Rows.{number_row, page_sign}
+use Rattle.pmb_stats_table.specs.Rows.{number_row, page_sign, phase_sign}
 use Rattle.pmb_stats_table.specs.Table.{bit_lines, first_line, head, number_lines, paragraph, paragraphs, table_text}
 use Rattle.pmb_stats_table.specs.Table.{times_say, total_line, wanted_paragraph}
 use Rattle.pmb_stats_table.specs.Widths.{widths_of}
 use Rattle.pmb_stats_texts.proofs.Counts as counted
 use Rattle.pmb_stats_texts.proofs.Lists.{both, either, flat_alike, in_range}
 use Rattle.pmb_stats_texts.proofs.Told.{bit_of, device_bits_alike, device_numbers_alike, numbers_of}
-use Rattle.pmb_units.specs.Units.{unit_of}
 
 -- ---- rows
 
 -- by the widths that a profile and a last time fix
-module _ (names : List DeviceParts) (until : Option (List ℕ)) where
+module _ (names : List DeviceParts) (until : Option (List ℕ)) (page : PageKey) (phase : PhaseKey)
+    (command : CommandParts) where
   -- a bit, by its count and times
-  abbrev bit_text_line : PageKey → EntryParts → ℕ → ℕ → Option (List ℕ) → Option (List ℕ) → Option (List ℕ) → List ℕ
-  bit_text_line page entry bit n first last gone =
-      bit_line (widths_of names until) (page_sign page) entry.name (named_bit (bit_text entry.code bit) bit) (decimal n)
-      (or_nothing first) (or_nothing last) (or_nothing gone)
+  abbrev bit_text_line : ℕ → ℕ → Option (List ℕ) → Option (List ℕ) → Option (List ℕ) → List ℕ
+  bit_text_line bit n first last gone =
+      bit_line (widths_of names until) (page_sign page) (phase_sign phase) command.entry.name
+      (named_bit (bit_text_in command.bits command.entry.code bit) bit) (decimal n) (or_nothing first)
+      (or_nothing last) (or_nothing gone)
 
-  bit_shown : (page : PageKey) (entry : EntryParts) (bit : ℕ) (reads others : List RegisterRead)
-      → TellBitAlike reads others bit → bit_row (widths_of names until) (bit_of page entry bit reads)
-      ≡ bit_row (widths_of names until) (bit_of page entry bit others)
-  bit_shown page entry bit reads others alike =
-      let line = bit_text_line page entry bit in
+  bit_shown : (bit : ℕ) (reads others : List RegisterRead) → TellBitAlike reads others bit
+      → bit_row (widths_of names until) (bit_of page phase command bit reads)
+      ≡ bit_row (widths_of names until) (bit_of page phase command bit others)
+  bit_shown bit reads others alike =
+      let line = bit_text_line bit in
       ap (λ n. line n (first_set reads bit) (last_set reads bit) (gone_time reads bit)) alike.count
       ∙ (ap (λ t. line (capped (set_count others bit)) t (last_set reads bit) (gone_time reads bit)) alike.first
       ∙ (ap (λ t. line (capped (set_count others bit)) (first_set others bit) t (gone_time reads bit)) alike.last
       ∙ ap (λ t. line (capped (set_count others bit)) (first_set others bit) (last_set others bit) t) alike.gone))
 
   -- the numbers of a command, by what is told of them
-  abbrev number_text_line : ℕ → PageKey → EntryParts → ℕ → ℕ → Option Fraction → Option Fraction → Option Fraction
-      → Option Fraction → List ℕ
-  number_text_line digits page entry n assumed low middle high last =
-      number_line (widths_of names until) (page_sign page) entry.name (decimal n) (count_text assumed)
-      (some_text digits low) (some_text digits middle) (some_text digits high) (some_text digits last)
-      (or_nothing (unit_of entry))
+  abbrev number_text_line : ℕ → ℕ → ℕ → Option Fraction → Option Fraction → Option Fraction → Option Fraction → List ℕ
+  number_text_line digits n assumed low middle high last =
+      number_line (widths_of names until) (page_sign page) (phase_sign phase) command.entry.name (decimal n)
+      (count_text assumed) (some_text digits low) (some_text digits middle) (some_text digits high)
+      (some_text digits last) (or_nothing command.unit)
 
-  number_shown : (digits : ℕ) (page : PageKey) (entry : EntryParts) (numbers others : List NumberData)
-      → TellNumbersAlike numbers others → number_row (widths_of names until) digits (numbers_of page entry numbers)
-      ≡ number_row (widths_of names until) digits (numbers_of page entry others)
-  number_shown digits page entry numbers others alike =
-      let line = number_text_line digits page entry in
+  number_shown : (digits : ℕ) (numbers others : List NumberData) → TellNumbersAlike numbers others
+      → number_row (widths_of names until) digits (numbers_of page phase command numbers)
+      ≡ number_row (widths_of names until) digits (numbers_of page phase command others)
+  number_shown digits numbers others alike =
+      let line = number_text_line digits in
       ap (λ n. line n (count_assumed numbers) (least numbers) (mean numbers) (greatest numbers) (last_value numbers))
       alike.count
       ∙ (ap (λ n. line (length others) n (least numbers) (mean numbers) (greatest numbers) (last_value numbers))
@@ -122,8 +122,9 @@ module _ (setting other : Setting) (facts others : List FactData) (alike : TellA
         headed_alike (number_heading (widths_of names until)) (number_row (widths_of names until) digits)
         (device_numbers setting.profile (observations setting facts) addr)
         (device_numbers setting.profile (observations other others) addr)
-        (device_numbers_alike (number_row (widths_of names until) digits) (number_shown names until digits)
-        setting.profile (observations setting facts) (observations other others) alike.spots addr small)
+        (device_numbers_alike (number_row (widths_of names until) digits)
+        (λ page phase command. number_shown names until page phase command digits) setting.profile
+        (observations setting facts) (observations other others) alike.spots addr small)
         ∙ ap (λ p. headed (number_heading (widths_of names until)) (number_row (widths_of names until) digits) First
         (device_numbers p (observations other others) addr)) alike.profile
 

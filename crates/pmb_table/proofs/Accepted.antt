@@ -1,13 +1,19 @@
 -- What holds of each command that a device may have, and of each device of a bus: it holds with
 -- one more of them, and of the one that a search finds. For `read_devices`, `read_device`, `read_next`,
 -- `first_commands`, `standard_ones` and `DeviceProfile::entry` and `initial`.
-use Rattle.std.proofs.Common.{◌≡◌, ℕ, ◌++◌, List, [], ◌∷◌, Bool, true, false, cond, Some, None, map, nat_eq, subst, sym}
+use Rattle.std.proofs.Common.{◌≡◌, ◌≤◌, ℕ, ◌++◌, arith, length, List, [], ◌∷◌, Bool, true, false, cond, Some, None, map, nat_eq, subst, sym}
 use Rattle.std.proofs.Common.{zero, suc, Option, Result, Ok, Err, not, ◌||◌}
 use Rattle.std.specs.Prelude.{IfOk, IfSome, option_map, slice_get}
 use Rattle.std.specs.declared.alloc.AllocError.{AllocError}
-use Rattle.std.specs.List.{AllByRecursion, filter_map, find, range_with_len}
-use Rattle.pmb_command.specs.Bus.{AreInitial, HasItemForEach, IsCommand, IsInitial}
+use Rattle.std.specs.List.{AllByRecursion, IsDistinct, filter_map, find, range_with_len}
+use Rattle.std.proofs.lemmas.List.{length-map}
+use Rattle.pmb_command.specs.Bus.{AreBits, AreInitial, HasItemForEach, IsBit, IsCommand, IsInitial, IsUnitOf}
 use Rattle.pmb_command.specs.Commands.{standard_entry}
+use Rattle.pmb_command.specs.Names.{is_name}
+use Rattle.pmb_command.specs.Standard.{IsStandardAt, standard_command}
+use Rattle.pmb_command.specs.Units.{standard_unit}
+use Rattle.pmb_keys.specs.CommandView.{bit_parts}
+use Rattle.pmb_keys.specs.declared.command.NamedBit.{NamedBit as CodeBit}
 use Rattle.pmb_command.specs.Entry.{EntryParts}
 use Rattle.pmb_command.specs.Parts.{CommandParts, InitialParts, Same, Each, initial_on}
 use Rattle.pmb_table.specs.Profile.{put, standard_commands}
@@ -70,10 +76,34 @@ pub IfSome-map : {X Y : Type 0} (f : X → Y) (P : Y → Type 0) (o : Option X) 
 IfSome-map f P (Some x) holds = holds
 IfSome-map f P None holds = tt
 
+-- and what follows from it
+pub IfSome-follows : {X : Type 0} (P Q : X → Type 0) (o : Option X) → ((x : X) → P x → Q x) → IfSome o P → IfSome o Q
+IfSome-follows P Q (Some x) follows holds = follows x holds
+IfSome-follows P Q None follows holds = tt
+
+-- bits that a command may have are few, and have names
+pub few_bits : (e : EntryParts) (bits : List CodeBit) → AreBits e (map bit_parts bits) → length bits ≤ 16
+few_bits e bits are = omega (arith, are.few, length-map bits bit_parts)
+
+pub bits_have_names : (e : EntryParts) (bits : List CodeBit) → AllByRecursion (IsBit e) (map bit_parts bits)
+    → AllByRecursion (λ b. is_name b.name.bytes ≡ true) bits
+bits_have_names e [] all = tt
+bits_have_names e (b ∷ bits) all = (all.0.name, bits_have_names e bits all.1)
+
+-- a standard command of which the profile says nothing is one that a device may have
+pub standard_is_command : (code : ℕ) (e : EntryParts) → IsStandardAt code e → IsCommand (standard_command e)
+unfolding IsDistinct
+standard_is_command code e sound = record {
+  entry = sound.entry;
+  initial = tt;
+  unit = subst (λ n. IfSome (standard_unit n) (IsUnitOf e.kind)) (sym sound.same_code) sound.unit;
+  bits = record { few = omega arith; each = tt; ascending = tt; own_names = tt };
+}
+
 -- the standard commands have no items
 bare_commands : (pages : ℕ) (es : List EntryParts)
-    → AllByRecursion IsCommand (map (λ e. record { entry = e; initial = None }) es)
-    → AllByRecursion (IsCommandOf pages) (map (λ e. record { entry = e; initial = None }) es)
+    → AllByRecursion IsCommand (map standard_command es)
+    → AllByRecursion (IsCommandOf pages) (map standard_command es)
 bare_commands pages [] all = tt
 bare_commands pages (e ∷ es) all = (record { command = all.0; items = tt }, bare_commands pages es all.1)
 

@@ -1,5 +1,5 @@
 -- A command that is put among commands which have codes of their own, and the map that holds them:
--- for `CommandMap::new`, `put`, `with_capacity`, `without_initial` and `bare_copy`. A place is
+-- for `CommandMap::new`, `put`, `with_capacity`, `bare` and `bare_copy`. A place is
 -- kept for each code; a command that is put replaces the one of its code or goes last, and all
 -- others stay where they were.
 use Rattle.std.proofs.Common.{◌≡◌, ℕ, zero, suc, ◌+◌, ◌<◌, ◌≤◌, Bool, true, false, cond, List, [], ◌∷◌, ◌++◌, length}
@@ -16,7 +16,7 @@ use Rattle.pmb_command.specs.Parts.{CommandParts, HaveOwnCodes}
 use Rattle.pmb_keys.specs.declared.command.Command.{Command}
 use Rattle.pmb_keys.specs.CommandView.{command_parts}
 use Rattle.pmb_table.specs.machine.CommandMap.{AreAtTheirCodes, AreTaken, IsFoundByCode, bare_entry, codes_of}
-use Rattle.pmb_table.specs.machine.CommandMap.{commands_view, without_initial}
+use Rattle.pmb_table.specs.machine.CommandMap.{commands_view, bare_command}
 use Rattle.pmb_table.specs.machine.Places.{ArePlaces}
 use Rattle.pmb_table.specs.Profile.{put}
 use Rattle.pmb_table.proofs.Places.{ArePlaces-set, same_both_ways}
@@ -202,9 +202,9 @@ copy_next all copied left e once so_far =
     ∙ append_assoc copied (bare_entry e ∷ []) (map bare_entry left) ∙ so_far
 
 -- the commands of the copy
-pub bare_parts : (es : List (ℕ × Command)) → commands_view (map bare_entry es) ≡ map without_initial (commands_view es)
+pub bare_parts : (es : List (ℕ × Command)) → commands_view (map bare_entry es) ≡ map bare_command (commands_view es)
 bare_parts [] = refl
-bare_parts (e ∷ es) = ap (λ cs. without_initial (command_parts e.1) ∷ cs) (bare_parts es)
+bare_parts (e ∷ es) = ap (λ cs. bare_command (command_parts e.1) ∷ cs) (bare_parts es)
 
 held-bare : (es : List (ℕ × Command)) → AreAtTheirCodes es → AreAtTheirCodes (map bare_entry es)
 held-bare [] held = tt

@@ -12,21 +12,17 @@ use Rattle.pmb_command.specs.Commands.{standard_entry}
 use Rattle.pmb_command.specs.Entry.{EntryParts}
 use Rattle.pmb_command.specs.Parts.{CommandParts, HaveOwnCodes}
 use Rattle.pmb_table.specs.Profile.{put, standard_commands}
-use Rattle.pmb_command.specs.Standard.{IsStandardAt}
-use Rattle.pmb_table.specs.machine.CommandMap.{without_initial}
+use Rattle.pmb_command.specs.Standard.{IsStandardAt, standard_command}
+use Rattle.pmb_table.specs.machine.CommandMap.{bare_command}
 use Rattle.pmb_table.specs.machine.StandardCommands.{AreAllOrNone}
 
 -- what is said of each standard entry
 abbrev pub AreSound : Type 0
 AreSound = (code : ℕ) (e : EntryParts) → standard_entry code ≡ Some e → IsStandardAt code e
 
--- a command of which the profile says nothing
-abbrev pub bare : EntryParts → CommandParts
-bare e = record { entry = e; initial = None }
-
 -- the standard commands with n codes from a on
 abbrev pub standard_from : ℕ → ℕ → List CommandParts
-standard_from a n = map bare (filter_map standard_entry (range_with_len a n))
+standard_from a n = map standard_command (filter_map standard_entry (range_with_len a n))
 
 -- those of all codes
 -- 256: as many codes as a byte has
@@ -46,12 +42,12 @@ range_from_zero n = rw add-one (range_more 0 n ∙ ap (λ k. range_with_len 0 n 
 
 -- one more code, which has an entry or has none
 standard_from-more : (n : ℕ) (o : Option EntryParts) → standard_entry n ≡ o
-    → standard_from 0 (n + 1) ≡ standard_from 0 n ++ map bare (cons_option o [])
+    → standard_from 0 (n + 1) ≡ standard_from 0 n ++ map standard_command (cons_option o [])
 standard_from-more n o is =
-    ap (λ xs. map bare (filter_map standard_entry xs)) (range_from_zero n)
-    ∙ ap (map bare) (filter_map-append standard_entry (range_with_len 0 n) (n ∷ []))
-    ∙ map-append bare (filter_map standard_entry (range_with_len 0 n)) (cons_option (standard_entry n) [])
-    ∙ ap (λ v. standard_from 0 n ++ map bare (cons_option v [])) is
+    ap (λ xs. map standard_command (filter_map standard_entry xs)) (range_from_zero n)
+    ∙ ap (map standard_command) (filter_map-append standard_entry (range_with_len 0 n) (n ∷ []))
+    ∙ map-append standard_command (filter_map standard_entry (range_with_len 0 n)) (cons_option (standard_entry n) [])
+    ∙ ap (λ v. standard_from 0 n ++ map standard_command (cons_option v [])) is
 
 pub standard_from-none : (n : ℕ) → standard_entry n ≡ None → standard_from 0 n ≡ standard_from 0 (n + 1)
 standard_from-none n none = sym (standard_from-more n None none ∙ append-nil (standard_from 0 n))
@@ -67,7 +63,7 @@ below sound a (suc n) =
     by : (o : Option EntryParts) → standard_entry a ≡ o
         → AllByRecursion (λ x. x.entry.code < a + suc n) (standard_from (a + 1) n)
         → AllByRecursion (λ x. x.entry.code < a + suc n)
-        (map bare (cons_option o (filter_map standard_entry (range_with_len (a + 1) n))))
+        (map standard_command (cons_option o (filter_map standard_entry (range_with_len (a + 1) n))))
     by None is rest = rest
     by (Some e) is rest = (omega (arith, (sound a e is).same_code), rest)
 
@@ -81,25 +77,25 @@ put-above c (x ∷ xs) above =
 
 -- so the next standard command goes last
 pub put-standard : AreSound → (n : ℕ) (e : EntryParts) → standard_entry n ≡ Some e
-    → put (bare e) (standard_from 0 n) ≡ standard_from 0 (n + 1)
+    → put (standard_command e) (standard_from 0 n) ≡ standard_from 0 (n + 1)
 put-standard sound n e has =
     let same : 0 + n ≡ e.code = omega (arith, (sound n e has).same_code) in
-    put-above (bare e) (standard_from 0 n) (subst (λ k. AllByRecursion (λ x. x.entry.code < k) (standard_from 0 n)) same
+    put-above (standard_command e) (standard_from 0 n) (subst (λ k. AllByRecursion (λ x. x.entry.code < k) (standard_from 0 n)) same
     (below sound 0 n))
     ∙ sym (standard_from-more n (Some e) has)
 
 -- ---- copies
 
 -- none of them has initial bytes
-bare-without_initial : (es : List EntryParts) → map without_initial (map bare es) ≡ map bare es
-bare-without_initial [] = refl
-bare-without_initial (e ∷ es) = ap (λ cs. bare e ∷ cs) (bare-without_initial es)
+bare-standard : (es : List EntryParts) → map bare_command (map standard_command es) ≡ map standard_command es
+bare-standard [] = refl
+bare-standard (e ∷ es) = ap (λ cs. standard_command e ∷ cs) (bare-standard es)
 
 -- so their copy is the same
-pub standard-without_initial : (n : ℕ) → n ≡ 256 → map without_initial standard_commands ≡ standard_commands
-standard-without_initial n all =
-    subst (λ cs. map without_initial cs ≡ cs) (standard_from-all n all)
-    (bare-without_initial (filter_map standard_entry (range_with_len 0 n)))
+pub standard-bare : (n : ℕ) → n ≡ 256 → map bare_command standard_commands ≡ standard_commands
+standard-bare n all =
+    subst (λ cs. map bare_command cs ≡ cs) (standard_from-all n all)
+    (bare-standard (filter_map standard_entry (range_with_len 0 n)))
 
 -- where some are kept, all are
 pub all_of_some : (cs : List CommandParts) → AreAllOrNone cs → 0 < length cs → cs ≡ standard_commands
@@ -107,16 +103,16 @@ all_of_some cs kept some = ⊎_elim (λ none. let empty : length cs ≡ 0 = ap l
     (λ all. all) kept.all_or_none
 
 -- so a copy of them is them
-pub copy-standard : (cs copy : List CommandParts) → cs ≡ standard_commands → copy ≡ map without_initial cs
+pub copy-standard : (cs copy : List CommandParts) → cs ≡ standard_commands → copy ≡ map bare_command cs
     → copy ≡ standard_commands
-copy-standard cs copy all is = is ∙ ap (map without_initial) all ∙ standard-without_initial 256 refl
+copy-standard cs copy all is = is ∙ ap (map bare_command) all ∙ standard-bare 256 refl
 
-pub copy_same : (cs copy : List CommandParts) → cs ≡ standard_commands → copy ≡ map without_initial cs → cs ≡ copy
+pub copy_same : (cs copy : List CommandParts) → cs ≡ standard_commands → copy ≡ map bare_command cs → cs ≡ copy
 copy_same cs copy all is = all ∙ sym (copy-standard cs copy all is)
 
 -- and can be kept
 pub kept_copy : (cs copy : List CommandParts) → cs ≡ standard_commands → HaveOwnCodes cs → AllByRecursion IsCommand cs
-    → copy ≡ map without_initial cs → AreAllOrNone copy
+    → copy ≡ map bare_command cs → AreAllOrNone copy
 kept_copy cs copy all own_codes accepted is = record {
   all_or_none = inr (copy-standard cs copy all is);
   own_codes = subst HaveOwnCodes (copy_same cs copy all is) own_codes;

@@ -9,6 +9,7 @@ use Rattle.pmb_keys.specs.declared.fault.FaultKind.{FaultKind}
 use Rattle.pmb_keys.specs.declared.fault.FaultKind.TheVariants as faults
 use Rattle.pmb_table.specs.declared.fault.ProfileFault.{ProfileFault}
 use Rattle.pmb_command.specs.Commands.{standard_entry}
+use Rattle.pmb_command.specs.Standard.{standard_command}
 use Rattle.pmb_keys.specs.CommandRules.{command_of}
 use Rattle.pmb_command.specs.Parts.{CommandParts, DeviceParts, IsNew, all_same, has_one_mode}
 use Rattle.pmb_keys.specs.DeviceKeys.{DeviceKeys, device_keys}
@@ -38,7 +39,7 @@ placed place (Err what) = Err (place what)
 
 -- the standard commands, in the order of their codes
 unfoldable pub standard_commands : List CommandParts
-standard_commands = map (λ e. record { entry = e; initial = None }) (filter_map standard_entry (range_with_len 0 256))
+standard_commands = map standard_command (filter_map standard_entry (range_with_len 0 256))
 
 -- A command in the place of the one that has its code; at the end where none has.
 abbrev pub put : CommandParts → List CommandParts → List CommandParts
@@ -67,6 +68,7 @@ device_parts keys commands = record {
   modes = keys.modes;
   vout_direct = keys.vout_direct;
   vid = keys.vid;
+  phases = keys.phases;
   commands = commands;
 }
 

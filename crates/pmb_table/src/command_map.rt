@@ -9,10 +9,9 @@ ghost use Rattle.indexmap.specs.IndexMap.{insert_entry};
 ghost use Rattle.pmb_keys.specs.CommandView.{command_parts};
 ghost use Rattle.pmb_command.specs.Parts.{HaveOwnCodes, command_with};
 ghost use Rattle.pmb_table.specs.Profile.{put};
-ghost use Rattle.pmb_table.specs.machine.CommandMap.{bare_entry, without_initial};
+ghost use Rattle.pmb_table.specs.machine.CommandMap.{bare_command, bare_entry};
 
 use indexmap::IndexMap;
-use pmb_command::Entry;
 use pmb_keys::Command;
 use std::alloc::{AllocError, Global};
 use std::marker::Model;
@@ -38,19 +37,27 @@ impl Model for CommandMap {
     ghost invariant = { λ m. IsFoundByCode m.commands.entries m.places };
 }
 
-/// Puts a command at its code, without the bytes that it has at first.
-fn insert_bare(copy: &mut IndexMap<u8, Command>, code: u8, entry: Entry) -> Result<(), AllocError>
-    ensures { OnOk result (copy.new.entries ≡ insert_entry nat_eq copy.old.entries code (record { entry = entry; initial = None })) }
+/// Puts a command at a code, without the bytes that it has at first and the names of its bits.
+fn insert_bare(
+    copy: &mut IndexMap<u8, Command>,
+    code: u8,
+    command: &Command,
+) -> Result<(), AllocError>
+    ensures { OnOk result (copy.new.entries ≡ insert_entry nat_eq copy.old.entries code (bare_entry (code, command.now)).1) }
 {
     let bare = Command {
-        entry,
+        entry: command.entry,
         initial: None,
+        unit: command.unit,
+        bits: None,
+        phased: command.phased,
     };
     copy.insert(code, bare)?;
     Ok(())
 }
 
-/// A copy of commands at their codes, without the bytes that they have at first.
+/// A copy of commands at their codes, without the bytes that they have at first and the names of
+/// their bits.
 fn bare_copy(
     alloc: Global,
     commands: &IndexMap<u8, Command>,
@@ -59,7 +66,7 @@ fn bare_copy(
 {
     let mut copy = IndexMap::with_capacity(alloc, commands.len())?;
     for (code, command) in commands {
-        insert_bare(&mut copy, *code, command.entry)?;
+        insert_bare(&mut copy, *code, command)?;
     }
     Ok(copy)
 }
@@ -87,9 +94,9 @@ impl CommandMap {
         })
     }
 
-    /// A copy of the commands, without the bytes that they have at first.
-    pub fn without_initial(&self, alloc: Global) -> Result<Self, AllocError>
-        ensures { IfOk result (λ copy. copy ≡ map without_initial self.now) }
+    /// A copy of the commands, without the bytes that they have at first and the names of their bits.
+    pub fn bare(&self, alloc: Global) -> Result<Self, AllocError>
+        ensures { IfOk result (λ copy. copy ≡ map bare_command self.now) }
     {
         let commands = bare_copy(alloc, &self.commands)?;
         Ok(CommandMap {

@@ -2,11 +2,14 @@
 //!
 //! Its rows: `tests_commands`, `src/parts.rt`, `src/sample.rt`; `tests/rows/profiles.txt`.
 
-ghost use Rattle.std.specs.Prelude.{◌≡◌, ◌<◌, length, option_map, slice_get, IfSome, Some};
+ghost use Rattle.std.specs.Prelude.{◌≡◌, ◌<◌, ◌≤◌, find, length, map, nat_eq, option_map, slice_get, true, IfSome, Some};
+ghost use Rattle.std.specs.List.{AllByRecursion};
 ghost use Rattle.pmb_command.specs.Bus.{HasTableForEach, IsDevice, IsEntry, IsInitial};
+ghost use Rattle.pmb_command.specs.Names.{IsUnit, is_name};
 ghost use Rattle.std.specs.Option.{option_and_then};
 ghost use Rattle.pmb_command.specs.Entry.{entry_parts};
-ghost use Rattle.pmb_command.specs.Parts.{HaveOwnCodes, command_with, initial_on};
+ghost use Rattle.pmb_command.specs.Parts.{HaveOwnCodes, command_with, initial_on, is_phased, name_of_bit, named_bits};
+ghost use Rattle.pmb_keys.specs.CommandView.{bit_parts, command_parts};
 ghost use Rattle.pmb_table.specs.Profile.{device_parts};
 ghost use Rattle.pmb_keys.specs.DeviceKeysView.{keys_parts};
 ghost use Rattle.pmb_keys.specs.VidView.{vid_parts};
@@ -14,7 +17,7 @@ ghost use Rattle.pmb_keys.specs.VidView.{vid_parts};
 use crate::command_map::CommandMap;
 use pmb_coefficients::Direct;
 use pmb_command::{Entry, Name, PecMode};
-use pmb_keys::{DeviceKeys, Modes, VidTables};
+use pmb_keys::{Command, DeviceKeys, Modes, NamedBit, VidTables};
 use std::marker::Model;
 
 /// A device of a bus: its address, how it speaks, and its commands, no two of which have one code.
@@ -29,6 +32,7 @@ pub struct DeviceProfile {
     modes: Modes,
     vout_direct: Option<Direct>,
     vid: Option<VidTables>,
+    phases: Option<u8>,
     commands: CommandMap,
 }
 
@@ -48,6 +52,7 @@ impl Model for DeviceProfile {
       modes = d.modes.items;
       vout_direct = d.vout_direct;
       vid = option_map vid_parts d.vid;
+      phases = d.phases;
       commands = d.commands;
     } };
 
@@ -59,8 +64,35 @@ impl Model for DeviceProfile {
       modes = d.modes.items;
       vout_direct = d.vout_direct;
       vid = option_map vid_parts d.vid;
+      phases = d.phases;
       commands = d.commands;
     }) };
+}
+
+/// The unit of a command's numbers.
+fn unit_of(command: &Command) -> Option<&str>
+    ensures { option_map (λ unit. unit.now) result ≡ (command_parts command.now).unit }
+{
+    command.unit()
+}
+
+/// The bits of a command's status register that have names of their own.
+fn bits_of(command: &Command) -> &[NamedBit]
+    ensures { map bit_parts result.now ≡ (command_parts command.now).bits }
+{
+    command.bits()
+}
+
+/// The first of some bits that is this one.
+fn find_bit(bits: &[NamedBit], bit: u8) -> Option<&NamedBit>
+    ensures { option_map (λ b. bit_parts b.now) result ≡ find (λ b. nat_eq b.bit bit) (map bit_parts bits.now) }
+{
+    for named in bits {
+        if named.bit == bit {
+            return Some(named);
+        }
+    }
+    None
 }
 
 impl DeviceProfile {
@@ -77,6 +109,7 @@ impl DeviceProfile {
             modes: keys.modes,
             vout_direct: keys.vout_direct,
             vid: keys.vid,
+            phases: keys.phases,
             commands,
         }
     }
@@ -144,6 +177,14 @@ impl DeviceProfile {
         self.vid.as_ref()
     }
 
+    /// How many phases it has, 1 to 255, where the profile says.
+    pub fn phases(&self) -> Option<u8>
+        ensures phases { result ≡ self.now.phases }
+        ensures within { IfSome result (λ n. (1 ≤ n) × (n ≤ 255)) }
+    {
+        self.phases
+    }
+
     /// How many commands there are.
     pub fn len(&self) -> usize
         ensures len { result ≡ length self.now.commands }
@@ -187,6 +228,56 @@ impl DeviceProfile {
                 None => None,
             },
             None => None,
+        }
+    }
+
+    /// The command with a code, and what the profile says of it.
+    pub fn command(&self, code: u8) -> Option<&Command>
+        ensures { option_map (λ c. command_parts c.now) result ≡ command_with code self.now.commands }
+    {
+        self.commands.get(code)
+    }
+
+    /// The unit of the numbers of the command with a code, 1 to 16 characters from 20h to 7eh: the
+    /// profile's, or that of the standard command which it is.
+    pub fn unit(&self, code: u8) -> Option<&str>
+        ensures unit { option_map (λ unit. unit.now) result ≡ option_and_then (λ c. c.unit) (command_with code self.now.commands) }
+        ensures accepted { IfSome result (λ unit. IsUnit unit.now) }
+    {
+        match self.commands.get(code) {
+            Some(command) => unit_of(command),
+            None => None,
+        }
+    }
+
+    /// The bits of the status register of a code that the profile names, from the lowest up.
+    pub fn bits(&self, code: u8) -> &[NamedBit]
+        ensures bits { map bit_parts result.now ≡ named_bits (command_with code self.now.commands) }
+        ensures few { length result.now ≤ 16 }
+        ensures names { AllByRecursion (λ b. is_name b.name.bytes ≡ true) result.now }
+    {
+        match self.commands.get(code) {
+            Some(command) => bits_of(command),
+            None => &[],
+        }
+    }
+
+    /// The name that the profile gives a bit of the status register of a code, counted from 0 at the
+    /// lowest.
+    pub fn bit_name(&self, code: u8, bit: u8) -> Option<&str>
+        ensures { option_map (λ name. name.now) result ≡ name_of_bit bit (named_bits (command_with code self.now.commands)) }
+    {
+        let named = find_bit(self.bits(code), bit)?;
+        Some(named.name.as_str())
+    }
+
+    /// Whether the profile says that the command with a code has a value for each phase.
+    pub fn is_phased(&self, code: u8) -> bool
+        ensures { result ≡ is_phased (command_with code self.now.commands) }
+    {
+        match self.commands.get(code) {
+            Some(command) => command.phased,
+            None => false,
         }
     }
 }

@@ -47,10 +47,7 @@ fn standard_ones(alloc: Global) -> Result<CommandMap, AllocError>
     let mut commands = CommandMap::with_capacity(alloc, CODES)?;
     for code in 0u16..256 {
         if let Some(entry) = standard(code as u8) {
-            commands.put(Command {
-                entry,
-                initial: None,
-            })?;
+            commands.put(Command::standard(entry))?;
         }
     }
     Ok(commands)
@@ -71,11 +68,11 @@ impl StandardCommands {
         ensures accepted { IfOk result (λ commands. AllByRecursion IsCommand commands) }
     {
         if self.commands.len() > 0 {
-            let copy = self.commands.without_initial(alloc)?;
+            let copy = self.commands.bare(alloc)?;
             return Ok(copy);
         }
         let found = standard_ones(alloc)?;
-        let kept = found.without_initial(alloc)?;
+        let kept = found.bare(alloc)?;
         self.commands = kept;
         Ok(found)
     }

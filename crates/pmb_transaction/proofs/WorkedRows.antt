@@ -54,6 +54,7 @@ use Rattle.pmb_transaction.proofs.WrittenLegs.{byte_follows as written_byte_foll
 may_be : (code : ℕ) (name : List ℕ) (shape : Shape) → code < 256 → IsNameOf code name → has_form shape ≡ true
     → ways_agree shape.write shape.read ≡ true → reads_data shape.read ≡ true → calls_fit shape.call ≡ true
     → (is_fixed code ≡ true → are_kept shape (standard_entry code) ≡ true) → IsCommand (command code name shape)
+unfolding IsDistinct
 may_be code name shape byte named some_form one_form read_data call_form fixed = record {
   entry = record {
     byte = byte;
@@ -71,6 +72,8 @@ may_be code name shape byte named some_form one_form read_data call_form fixed =
     };
   };
   initial = tt;
+  unit = tt;
+  bits = record { few = omega arith; each = tt; ascending = tt; own_names = tt };
 }
 
 command_03h : IsCommand clear_faults
@@ -104,6 +107,7 @@ is_58h = record {
   bytes = (omega arith, tt);
   one_mode = λ one. refl;
   tables = tt;
+  phases = tt;
   own_codes = ((refl, tt), (tt, tt));
   commands = (command_03h, (command_88h, tt));
   items = (tt, (tt, tt));
@@ -120,6 +124,7 @@ is_59h = record {
   bytes = (omega arith, tt);
   one_mode = λ one. refl;
   tables = tt;
+  phases = tt;
   own_codes = (tt, tt);
   commands = (command_19h, tt);
   items = (tt, tt);

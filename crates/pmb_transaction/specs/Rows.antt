@@ -21,6 +21,9 @@ command code name shape = record {
   entry =
       record { code = code; name = name; shape = shape; kind = Raw; paged = false };
   initial = None;
+  unit = None;
+  bits = [];
+  phased = false;
 }
 
 -- CLEAR_FAULTS is written without data, and READ_VIN is read, a word.
@@ -44,6 +47,7 @@ device_58h = record {
   modes = 0 ∷ [];
   vout_direct = None;
   vid = None;
+  phases = None;
   commands =
       clear_faults ∷ read_vin ∷ [];
 }
@@ -58,6 +62,7 @@ device_59h = record {
   modes = 0 ∷ [];
   vout_direct = None;
   vid = None;
+  phases = None;
   commands = capability
       ∷ [];
 }

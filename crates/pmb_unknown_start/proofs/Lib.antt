@@ -3,3 +3,4 @@ pub mod Telling
 pub mod Cutting
 pub mod Full
 pub mod Assumed
+pub mod LastPhase

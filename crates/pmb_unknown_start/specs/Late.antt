@@ -5,3 +5,4 @@
 -- else needs it to be understood.
 pub use Rattle.pmb_unknown_start.specs.machine.Standing.{HasSeen}
 pub use Rattle.pmb_unknown_start.specs.Known.{page, mode, is_assumed}
+pub use Rattle.pmb_unknown_start.specs.Phase.{phase}

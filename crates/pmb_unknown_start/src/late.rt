@@ -1,6 +1,7 @@
-//! What is known of PAGE and VOUT_MODE of the devices of a bus.
+//! What is known of PAGE, VOUT_MODE and PHASE of the devices of a bus.
 //!
-//! Its rows: `tests_lines`, `src/late/starts.rt`; `tests_json`, `src/fields/contexts.rt`.
+//! Its rows: `tests_lines`, `src/late/starts.rt` and `phases.rt`; `tests_json`,
+//! `src/fields/contexts.rt`.
 
 ghost use Rattle.std.specs.Prelude.{◌≡◌, ◌++◌, ◌∷◌, [], if◌then◌else◌, List, fold, map, nat_eq, option_map, Some};
 ghost use Rattle.pmb_command.specs.Parts.{DeviceParts, device_with};
@@ -8,11 +9,12 @@ ghost use Rattle.pmb_transaction.specs.Transaction.{TransactionData, part_data, 
 ghost use Rattle.pmb_note.specs.Paging.{told_by_part};
 ghost use Rattle.pmb_unknown_start.specs.declared.start.Start.{Start as StartData};
 ghost use Rattle.pmb_unknown_start.specs.Known.{KnownPaging, first_known, forget_modes, learn_told, learn_transaction, learn_written, mode_of};
-ghost use Rattle.pmb_unknown_start.specs.Late.{HasSeen, is_assumed as is_assumed_after, mode as mode_after, page as page_after};
+ghost use Rattle.pmb_unknown_start.specs.Late.{HasSeen, is_assumed as is_assumed_after, mode as mode_after, page as page_after, phase as phase_after};
 ghost use Rattle.pmb_unknown_start.specs.machine.Standing.{Keeps, kept_at};
 
 use crate::known::{Known, is_paging};
 use crate::mode::{KnownMode, is_unknown};
+use crate::phases::Phases;
 use crate::restores::untells_mode;
 use crate::start::Start;
 use arrayvec::ArrayVec;
@@ -23,8 +25,8 @@ use pmb_transaction::{Part, Transaction};
 /// How many addresses of seven bits there are.
 const ADDRESSES: u8 = 128;
 
-/// What is known of PAGE and VOUT_MODE of each device of a profile, as the transactions on the bus
-/// tell them, where the first of them may not be the first on the bus. It takes no memory from an
+/// What is known of PAGE, VOUT_MODE and PHASE of each device of a profile, as the transactions on the
+/// bus tell them, where the first of them may not be the first on the bus. It takes no memory from an
 /// allocator, whatever it is given.
 ///
 /// A PAGE that is not known is one of the device's pages, or ffh. So a VOUT_MODE that is told then is
@@ -33,6 +35,8 @@ const ADDRESSES: u8 = 128;
 /// After a write of RESTORE_DEFAULT_ALL, RESTORE_DEFAULT_CODE, RESTORE_USER_ALL or RESTORE_USER_CODE
 /// (12h, 14h, 16h, 18h), and of VOUT_MODE by PAGE_PLUS_WRITE (05h), VOUT_MODE of that device is
 /// untold: it is unknown again with [`Start::Late`], and keeps its last value with another start.
+///
+/// PHASE is not known at first with any start.
 #[derive(Drop)]
 pub struct Late<'p> {
     profile: &'p Profile,
@@ -41,6 +45,7 @@ pub struct Late<'p> {
     known: ArrayVec<Known, 128>,
     /// The same, had the capture begun in the middle.
     told: ArrayVec<Known, 128>,
+    phases: Phases,
 }
 
 impl<'p> Late<'p> {
@@ -53,6 +58,7 @@ impl<'p> Late<'p> {
             start,
             known: all_first_known(profile, start),
             told: all_first_known(profile, Start::Late),
+            phases: Phases::new(),
         }
     }
 
@@ -65,6 +71,7 @@ impl<'p> Late<'p> {
         learn_transaction(self.profile, known, self.start, transaction);
         let told = self.told.as_mut_slice();
         learn_transaction(self.profile, told, Start::Late, transaction);
+        self.phases.observe(transaction);
     }
 
     /// The value of PAGE of the device with an address, ffh for all pages, also where it has no page of
@@ -95,6 +102,19 @@ impl<'p> Late<'p> {
             → result ≡ is_assumed_after profile ts addr }
     {
         is_unknown(mode_in(self.profile, self.told.as_slice(), addr))
+    }
+
+    /// The value of PHASE of the device with an address, ffh for all phases: the last one that was
+    /// written to it or read from it. `None` where none was, where the device has no phases, and where
+    /// the profile has no such device.
+    pub fn phase(&self, addr: u8) -> Option<u8>
+        ensures { (profile : List DeviceParts) (start : StartData) (ts : List TransactionData) → HasSeen self.now profile start ts
+            → result ≡ phase_after profile ts addr }
+    {
+        match self.profile.device(addr) {
+            Some(device) if device.phases().is_some() => self.phases.last(addr),
+            Some(_) | None => None,
+        }
     }
 }
 

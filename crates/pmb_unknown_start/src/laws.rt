@@ -9,6 +9,7 @@ ghost use Rattle.pmb_unknown_start.specs.declared.mode.KnownMode.TheVariants.{Kn
 ghost use Rattle.pmb_unknown_start.specs.declared.start.Start.{Start};
 ghost use Rattle.pmb_unknown_start.specs.declared.start.Start.TheVariants.{AllKnown, Late};
 ghost use Rattle.pmb_unknown_start.specs.Known.{is_assumed, known, known_mode, mode, page};
+ghost use Rattle.pmb_unknown_start.specs.Phase.{phase};
 ghost use Rattle.pmb_unknown_start.specs.Certain.{AgreesWith, CanBeCutAfter, IsCertainMode, IsCertainPage, known_as};
 
 /// What is known is certain: it is so for each VOUT_MODE and each PAGE that the device can have where
@@ -24,14 +25,16 @@ pub fn what_is_known_is_certain()
         → IsCertainPage start device ts page }
 {}
 
-/// A piece of a capture says of no mode or page what the whole denies: what is known of them in the
-/// piece is so in the whole, if the capture is cut where it can be.
+/// A piece of a capture says of no mode, page or phase what the whole denies: what is known of them in
+/// the piece is so in the whole, of the mode if the capture is cut where it can be.
 pub fn pieces_say_what_the_whole_says()
     ensures mode { (profile : List DeviceParts) (start : Start) (before piece : List TransactionData) (addr : ℕ) → IsBus profile
         → ((device : DeviceParts) → device_with addr profile ≡ Some device → CanBeCutAfter start device before)
         → AgreesWith (mode start profile piece addr) (mode_of_whole profile (before ++ piece) addr) }
     ensures page { (profile : List DeviceParts) (start : Start) (before piece : List TransactionData) (addr : ℕ) (number : ℕ) → start ≢ AllKnown
         → page start profile piece addr ≡ Some number → page_of_whole profile (before ++ piece) addr ≡ Some number }
+    ensures phase { (profile : List DeviceParts) (before piece : List TransactionData) (addr : ℕ) (number : ℕ) → phase profile piece addr ≡ Some number
+        → phase profile (before ++ piece) addr ≡ Some number }
 {}
 
 /// What is not assumed is the same with each start: where the mode would be known, or known not to be,

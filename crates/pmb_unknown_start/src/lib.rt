@@ -1,10 +1,11 @@
-//! What is known of PAGE and VOUT_MODE of each device where a capture begins in the middle.
+//! What is known of PAGE, VOUT_MODE and PHASE of each device where a capture begins in the middle.
 //!
 //! A [`Late`] follows the transactions on a bus as a `pmb_note::Context` does. Where that takes PAGE
 //! and VOUT_MODE for their first values, they are unknown here until the transactions tell them. What
 //! is known holds for each VOUT_MODE and each PAGE that a device can have where the capture begins: one
 //! of its pages, or ffh. [`Start`] says what is known at first. With each start, [`Late::is_assumed`]
 //! says whether VOUT_MODE is assumed: it would not be known, had the capture begun in the middle.
+//! PHASE is known with each start only once it was told ([`Late::phase`]).
 //!
 //! ```rust
 //! let profile = Profile::from_toml(rt.alloc(), SAMPLE.as_bytes())?;
@@ -21,6 +22,7 @@ mod known;
 mod late;
 pub mod laws;
 mod mode;
+mod phases;
 mod restores;
 mod start;
 

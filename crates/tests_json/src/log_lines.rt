@@ -2,6 +2,7 @@
 //! and each reason, told by hand.
 
 mod doc;
+mod own;
 mod packets;
 mod refusals;
 mod words;

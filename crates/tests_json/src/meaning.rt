@@ -3,7 +3,47 @@
 
 use crate::compare::same;
 use arrayvec::ArrayVec;
-use pmb_meaning::{Payload, says_member, says_words};
+use pmb_meaning::{Payload, SAYS_MEMBER, SAYS_WORDS, says_member, says_words};
+use pmb_table::{DeviceProfile, Profile};
+use std::test::Fail;
+
+/// 58h has the standard's commands as they are. The profile names bits of two status registers of 59h,
+/// and gives OPERATION another name, PMBUS_REVISION another kind.
+static PROFILE: &str = r#"[[device]]
+address = 0x58
+pec = "off"
+
+[[device]]
+address = 0x59
+pec = "off"
+
+[[device.command]]
+name = "STATUS_TEMPERATURE"
+bits = { 1 = "FUSE", 7 = "A_NAME_THAT_HAS_32_CHARACTERS_OK" }
+
+[[device.command]]
+code = 0xd9
+name = "STATUS_PHASES"
+read = "two"
+kind = "status"
+bits = { 3 = "PHASE_3_OC", 8 = "IN_THE_HIGH_BYTE" }
+
+[[device.command]]
+code = 0x01
+name = "ENABLE"
+write = "one"
+read = "one"
+
+[[device.command]]
+code = 0x10
+name = "WRITE_PROTECT"
+write = "one"
+read = "one"
+
+[[device.command]]
+name = "PMBUS_REVISION"
+kind = "text"
+"#;
 
 /// The data of a row: what is written or read, or what is sent in a call and the reply.
 #[derive(Clone, Copy)]
@@ -238,6 +278,28 @@ static WORDS: [Row; 8] = [
     ),
 ];
 
+/// Of 59h: a mask has the profile's names, then the standard's, then numbers; only a command that has the
+/// standard's name and is bytes says something.
+#[rattlefmt::skip]
+static NAMED_MEMBERS: [Row; 9] = [
+    (0x1b, Data::Written(&[0x7d, 0xc2]), ",\"says\":{\"register\":\"7d\",\"mask\":[\"A_NAME_THAT_HAS_32_CHARACTERS_OK\",\"OT_WARN\",\"FUSE\"]}"),
+    (0x1b, Data::Called(&[0x7d], &[0x05]), ",\"says\":{\"register\":\"7d\",\"mask\":[\"bit2\",\"bit0\"]}"),
+    (0x1b, Data::Called(&[0xd9], &[0x09]), ",\"says\":{\"register\":\"d9\",\"mask\":[\"PHASE_3_OC\",\"bit0\"]}"),
+    (0x1b, Data::Written(&[0x7a, 0x40]), ",\"says\":{\"register\":\"7a\",\"mask\":[\"VOUT_OV_WARN\"]}"),
+    (0x01, Data::Written(&[0x80]), ""),
+    (0x10, Data::Written(&[0x03]), ",\"says\":{\"writable\":\"reserved\"}"),
+    (0x98, Data::Read(&[0x33]), ""),
+    (0xd9, Data::Read(&[0x01, 0x00]), ""),
+    (0x20, Data::Read(&[0x14]), ",\"says\":{\"relative\":false,\"mode\":\"linear\",\"exponent\":-12}"),
+];
+
+/// The same in words.
+#[rattlefmt::skip]
+static NAMED_WORDS: [Row; 2] = [
+    (0x1b, Data::Called(&[0x7d], &[0x82]), "register 7d, mask A_NAME_THAT_HAS_32_CHARACTERS_OK FUSE"),
+    (0x1b, Data::Called(&[0xd9], &[0x00]), "register d9, mask none"),
+];
+
 fn members() -> &'static [Row] {
     &MEMBERS
 }
@@ -246,25 +308,60 @@ fn words() -> &'static [Row] {
     &WORDS
 }
 
-#[test]
-fn member_rows(rt: HostRuntime) {
-    for (number, row) in members().iter().enumerate() {
-        let mut out = ArrayVec::<u8, 1024>::new();
-        says_member(&mut out, row.0, &payload(row.1));
-        same(&rt, ("row", number), out.as_slice(), row.2.as_bytes());
-    }
+fn named_members() -> &'static [Row] {
+    &NAMED_MEMBERS
+}
+
+fn named_words() -> &'static [Row] {
+    &NAMED_WORDS
+}
+
+/// What is appended for a row; nothing where the device has no such command.
+fn member(device: &DeviceProfile, row: &Row) -> Option<ArrayVec<u8, SAYS_MEMBER>> {
+    let mut out = ArrayVec::new();
+    says_member(&mut out, device, device.entry(row.0)?, &payload(row.1));
+    Some(out)
+}
+
+/// The words, and whether there are some.
+fn in_words(device: &DeviceProfile, row: &Row) -> Option<(bool, ArrayVec<u8, SAYS_WORDS>)> {
+    let mut out = ArrayVec::new();
+    let told = says_words(&mut out, device, device.entry(row.0)?, &payload(row.1));
+    Some((told, out))
 }
 
 #[test]
-fn word_rows(rt: HostRuntime) {
-    for (number, row) in words().iter().enumerate() {
-        let mut out = ArrayVec::<u8, 1024>::new();
-        let told = says_words(&mut out, row.0, &payload(row.1));
-        same(
-            &rt,
-            ("row", number),
-            (told, out.as_slice()),
-            (true, row.2.as_bytes()),
-        );
+fn member_rows(rt: HostRuntime) -> Result<(), Fail> {
+    let profile = Profile::from_toml(rt.alloc(), PROFILE.as_bytes())?;
+    for (address, rows) in [(0x58, members()), (0x59, named_members())] {
+        let device = profile.device(address).ok_or("a device")?;
+        for (number, row) in rows.iter().enumerate() {
+            let out = member(device, row).ok_or("a command")?;
+            same(
+                &rt,
+                (address, "row", number),
+                out.as_slice(),
+                row.2.as_bytes(),
+            );
+        }
     }
+    Ok(())
+}
+
+#[test]
+fn word_rows(rt: HostRuntime) -> Result<(), Fail> {
+    let profile = Profile::from_toml(rt.alloc(), PROFILE.as_bytes())?;
+    for (address, rows) in [(0x58, words()), (0x59, named_words())] {
+        let device = profile.device(address).ok_or("a device")?;
+        for (number, row) in rows.iter().enumerate() {
+            let (told, out) = in_words(device, row).ok_or("a command")?;
+            same(
+                &rt,
+                (address, "row", number),
+                (told, out.as_slice()),
+                (true, row.2.as_bytes()),
+            );
+        }
+    }
+    Ok(())
 }

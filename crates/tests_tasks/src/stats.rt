@@ -6,7 +6,7 @@ use pmb_facts::{Fact, What};
 use pmb_io::{Io, Tally, ToolFault};
 use pmb_json_objects::{Head, Seen};
 use pmb_keeper::Keeper;
-use pmb_observed::{PageKey, Spot};
+use pmb_observed::{PageKey, PhaseKey, Spot};
 use pmb_places::Place;
 use pmb_stats::Statistics;
 use pmb_stats_counts::{Fail as FailOn, Sort};
@@ -135,6 +135,7 @@ fn keeps_what_a_fact_tells(rt: HostRuntime) -> Result<(), Fail> {
         addr: 0x58,
         code: 0x79,
         page: PageKey::OnPage(0),
+        phase: PhaseKey::Unphased,
     };
     let bits = stats.register(spot).ok_or("no register")?;
     let bit = bits.get(6).ok_or("no bit")?;
@@ -152,6 +153,7 @@ fn has_room_for_each_register(rt: HostRuntime) -> Result<(), Fail> {
         addr: 0x58,
         code: 0x79,
         page: PageKey::OnPage(0),
+        phase: PhaseKey::Unphased,
     };
     room.see_read(spot, 0x0040, Some(b"0.5"));
     let bits = room.register(spot).ok_or("no register")?;

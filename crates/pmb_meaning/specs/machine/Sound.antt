@@ -1,13 +1,16 @@
 -- What is so of all rows of the tables, by a test, and so of all fields.
-use Rattle.std.specs.Prelude.{ℕ, ◌+◌, ◌≤◌, ◌^◌, ◌&&◌, max, nat_le, nat_lt, Bool, true, IsTrue, List, [], ◌∷◌, length}
-use Rattle.std.specs.Prelude.{map, ℤ, pos, negsuc}
-use Rattle.std.specs.List.{list_all}
+use Rattle.std.specs.Prelude.{◌≡◌, ℕ, ◌+◌, ◌≤◌, ◌^◌, ◌&&◌, max, nat_le, nat_lt, Bool, true, false, IsTrue, List}
+use Rattle.std.specs.Prelude.{[], ◌∷◌, length, map, ℤ, pos, negsuc}
+use Rattle.std.specs.List.{AllByRecursion, list_all}
+use Rattle.pmb_command.specs.Names.{is_name}
+use Rattle.pmb_command.specs.Parts.{NamedBit}
 use Rattle.pmb_json_text.specs.Json.{AreDistinct}
 use Rattle.pmb_json_text.specs.Member.{AreWritable, all_plain, are_distinct, is_key}
-use Rattle.pmb_meaning.specs.Field.{Said, word, number, truth, words, hex, SaidField}
+use Rattle.pmb_meaning.specs.Field.{Said, word, number, truth, words, masked, hex, SaidField}
 use Rattle.pmb_meaning.specs.Laws.{keys}
 use Rattle.pmb_meaning.specs.Layout.{NamedValue, Sense, flag, signed, number_or, choice, command_code, mask, Condition}
 use Rattle.pmb_meaning.specs.Layout.{always, among, FieldRow, CommandLayout}
+use Rattle.pmb_meaning.specs.Names.{RegisterNames}
 use Rattle.pmb_meaning.specs.Object.{field_members}
 use Rattle.pmb_meaning.specs.declared.layout.Way.{Way}
 use Rattle.pmb_meaning.specs.declared.layout.Way.TheVariants.{Register, Written, Read, Sent, Called}
@@ -57,6 +60,7 @@ is_plain_value (word text) = all_plain text
 is_plain_value (number n) = is_short_number n
 is_plain_value (truth holds) = true
 is_plain_value (words names) = list_all all_plain names
+is_plain_value (masked register byte) = false
 is_plain_value (hex all) = true
 
 abbrev pub are_plain_values : List NamedValue → Bool
@@ -82,21 +86,29 @@ abbrev pub names_room : List NamedValue → ℕ
 names_room [] = 0
 names_room (x ∷ more) = max (said_room x.value) (names_room more)
 
--- a number takes 31 bytes, `reserved` 70, and the names of a mask 864
+-- a number takes 31 bytes, `reserved` 70, and the names of a mask 1584
 abbrev pub sense_room : Sense → ℕ
 sense_room flag = 25
 sense_room signed = 31
 sense_room (number_or names) = max 31 (names_room names)
 sense_room (choice names) = max 70 (names_room names)
 sense_room command_code = 27
-sense_room mask = 864
+sense_room mask = 1584
 
 abbrev pub rows_room : List FieldRow → ℕ
 rows_room [] = 0
 rows_room (r ∷ more) = sense_room r.sense + rows_room more
 
 abbrev pub is_told : CommandLayout → Bool
-is_told l = list_all is_plain_row l.rows && (are_distinct (row_keys l.rows) && nat_le (rows_room l.rows) 900)
+is_told l = list_all is_plain_row l.rows && (are_distinct (row_keys l.rows) && nat_le (rows_room l.rows) 1620)
+
+-- ---- names of bits
+
+abbrev pub AreNamed : List NamedBit → Type 0
+AreNamed bits = AllByRecursion (λ b. is_name b.name ≡ true) bits
+
+abbrev pub AreRegisterNames : RegisterNames → Type 0
+AreRegisterNames names = (register : ℕ) → AreNamed (names register)
 
 -- ---- what is so of the fields of any data
 
@@ -106,5 +118,5 @@ have_keys fields = list_all (λ f. is_key f.key) fields
 pub record AreSound (fields : List SaidField) : Type 0 where
   pub keyed : IsTrue (have_keys fields)
   pub distinct : AreDistinct (keys fields)
-  pub writable : AreWritable (field_members fields)
-  pub room : fields_room fields ≤ 900
+  pub writable : (names : RegisterNames) → AreRegisterNames names → AreWritable (field_members names fields)
+  pub room : fields_room fields ≤ 1620

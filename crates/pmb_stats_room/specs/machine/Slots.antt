@@ -1,7 +1,7 @@
 -- What a slot holds.
 use Rattle.std.specs.Prelude.{◌≡◌, Option, Some, None, List, [], length}
 use Rattle.pmb_command.specs.declared.entry.Kind.{Kind}
-use Rattle.pmb_command.specs.declared.entry.Kind.TheVariants.{Raw, Number, Vout, VoutSigned, Status}
+use Rattle.pmb_command.specs.declared.entry.Kind.TheVariants.{Raw, Number, Vout, VoutSigned, Status, Text}
 use Rattle.pmb_mean.specs.machine.History.{HistoryData, HistoryStandsAt}
 use Rattle.pmb_mean.specs.Numbers.{NumberData}
 use Rattle.pmb_stats_bits.specs.Bits.{RegisterRead}
@@ -31,6 +31,7 @@ kept_as (Number format) = Some OfValues
 kept_as Vout = Some OfValues
 kept_as VoutSigned = Some OfValues
 kept_as Status = Some OfBits
+kept_as Text = None
 
 -- the histories of all 16 bits stand at these reads of a register
 pub record HaveRead (bits : List BitHistory) (reads : List RegisterRead) : Type 0 where

@@ -24,13 +24,16 @@ AreAtTheirCodes entries = AllByRecursion (λ e. e.1.entry.code ≡ e.0) entries
 abbrev pub codes_of : List CommandParts → List ℕ
 codes_of commands = map (λ c. c.entry.code) commands
 
--- a command without the bytes that it has at first
-abbrev pub without_initial : CommandParts → CommandParts
-without_initial c = record { entry = c.entry; initial = None }
+-- a command without what takes memory: the bytes that it has at first, and the names of its bits
+abbrev pub bare_command : CommandParts → CommandParts
+bare_command c = record { entry = c.entry; initial = None; unit = c.unit; bits = []; phased = c.phased }
 
 -- and the entry of a map for it
 abbrev pub bare_entry : ℕ × Command → ℕ × Command
-bare_entry e = (e.0, record { entry = e.1.entry; initial = None })
+bare_entry e = (
+  e.0,
+  record { entry = e.1.entry; initial = None; unit = e.1.unit; bits = None; phased = e.1.phased },
+)
 
 -- a command that a device with so many pages may have
 pub record IsCommandOf (pages : ℕ) (c : CommandParts) : Type 0 where

@@ -246,7 +246,7 @@ impl<'p> PlainDevice<'p> {
         let direct = match self.device.entry(code)?.kind {
             Kind::Number(NumberFormat::Word(VoutFormat::Direct(direct))) => direct,
             Kind::Vout | Kind::VoutSigned => self.device.vout_direct()?,
-            Kind::Raw | Kind::Number(_) | Kind::Status => return None,
+            Kind::Raw | Kind::Number(_) | Kind::Status | Kind::Text => return None,
         };
         let m = direct.m().to_le_bytes();
         let b = direct.b().to_le_bytes();

@@ -2,16 +2,17 @@
 
 use crate::compare::same;
 use arrayvec::ArrayVec;
-use pmb_command::Kind;
+use pmb_command::standard;
 use pmb_decimal::Digits;
 use pmb_json_fields::{Access, Basis, DATA_MEMBERS, data_members, laws};
+use pmb_keys::Command;
 use pmb_unknown_start::KnownMode;
 use pmb_value::{NumberFormat, Sign};
 use pmb_voltage::{Voltages, laws as voltage_laws};
 
 #[test]
 fn example(rt: HostRuntime) {
-    let mut out = ArrayVec::<u8, 2048>::new();
+    let mut out = ArrayVec::<u8, 4096>::new();
     let digits = Digits::new(2).expect(&rt, "digits");
     let voltages = Voltages {
         mode: KnownMode::Known(0x17),
@@ -19,19 +20,19 @@ fn example(rt: HostRuntime) {
         coefficients: None,
         vid: None,
     };
+    let command = Command::standard(standard(0x8b).expect(&rt, "a command"));
     data_members(
         &mut out,
         digits,
         Access::Read,
         &voltages,
         Basis::Assumed,
-        0x8b,
-        Kind::Vout,
+        &command,
         &[0xff, 0x01],
     );
-    let members = b",\"value\":\"0.998046875\",\"number\":1,\"mode\":\"assumed\"";
+    let members = b",\"value\":\"0.998046875\",\"number\":1,\"mode\":\"assumed\",\"unit\":\"V\"";
     same(&rt, "members", out.as_slice(), &members[..]);
-    laws::keys_are_some_of_seven();
+    laws::keys_are_some_of_nine();
     laws::keys_are_distinct();
 }
 
@@ -64,13 +65,13 @@ fn is_one(format: &NumberFormat) -> bool {
     }
 }
 
-// 16 bits whose names have 17 characters of 6 bytes each would take that many.
+// 16 bits whose names have 32 characters of 6 bytes each would take that many.
 #[test]
 fn bound(rt: HostRuntime) {
     same(
         &rt,
         "how long they may be",
         DATA_MEMBERS,
-        22 + 16 * (3 + 6 * 17),
+        22 + 16 * (3 + 6 * 32),
     );
 }

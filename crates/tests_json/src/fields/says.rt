@@ -1,16 +1,16 @@
 //! What is said of data, and what should be.
 
 use arrayvec::ArrayVec;
-use pmb_command::Kind;
+use pmb_command::{Entry, Kind, Name, Shape};
 use pmb_decimal::Digits;
 use pmb_json_fields::{Access, Basis, data_members};
-use pmb_keys::VidTables;
+use pmb_keys::{Command, VidTables};
 use pmb_unknown_start::KnownMode;
 use pmb_value::Direct;
 use pmb_voltage::Voltages;
 
 /// The members of an object, as text.
-pub(crate) type Text = ArrayVec<u8, 2048>;
+pub(crate) type Text = ArrayVec<u8, 4096>;
 
 /// What hangs on more than the command: digits, access, what the format of an output voltage depends on
 /// but for VID tables, and what the device's VOUT_MODE rests on.
@@ -48,8 +48,31 @@ pub(crate) fn under(mode: KnownMode, coefficients: Option<Direct>) -> Case {
     }
 }
 
-/// What is said of data of a command of a device without VID tables, after a `:`; `?` where there are no
-/// such digits.
+/// A command of which no more is told than its code and its kind: it has no name, no forms, no unit and
+/// no names of bits.
+fn bare(code: u8, kind: Kind) -> Command {
+    let shape = Shape {
+        write: None,
+        read: None,
+        call: None,
+    };
+    Command {
+        entry: Entry {
+            code,
+            name: Name::new(),
+            shape,
+            kind,
+            paged: true,
+        },
+        initial: None,
+        unit: None,
+        bits: None,
+        phased: false,
+    }
+}
+
+/// What is said of data of a bare command of a device without VID tables, after a `:`; `?` where there are
+/// no such digits.
 pub(crate) fn said(case: &Case, code: u8, kind: Kind, bytes: &[u8]) -> Text {
     said_by(case, None, code, kind, bytes)
 }
@@ -62,11 +85,25 @@ pub(crate) fn said_by(
     kind: Kind,
     bytes: &[u8],
 ) -> Text {
+    said_of(case, vid, &bare(code, kind), bytes)
+}
+
+/// .. of any command; `?` also where there are more bytes than a packet has.
+pub(crate) fn said_of(
+    case: &Case,
+    vid: Option<&VidTables>,
+    command: &Command,
+    bytes: &[u8],
+) -> Text {
     let mut text = Text::new();
     let Some(digits) = Digits::new(case.digits) else {
         let _ = text.try_push(b'?');
         return text;
     };
+    if bytes.len() > 255 {
+        let _ = text.try_push(b'?');
+        return text;
+    }
     text.push(b':');
     let voltages = Voltages {
         mode: case.mode,
@@ -80,8 +117,7 @@ pub(crate) fn said_by(
         case.access,
         &voltages,
         case.basis,
-        code,
-        kind,
+        command,
         bytes,
     );
     text

@@ -4,8 +4,9 @@ use crate::compare::same;
 use arrayvec::ArrayVec;
 use pmb_decimal::Digits;
 use pmb_facts::{Fact, What};
+use pmb_json_fields::Access;
 use pmb_json_objects::{Head, Seen};
-use pmb_log_data::append_data;
+use pmb_log_data::{DATA, append_data};
 use pmb_log_lines::{LINE, Layout, append_log_line};
 use pmb_places::Place;
 use pmb_table::{Profile, SAMPLE};
@@ -21,8 +22,8 @@ fn what_is_said_of_data(rt: HostRuntime) -> Result<(), Fail> {
         profile: &profile,
         late: &late,
     };
-    let mut out = ArrayVec::<u8, 1024>::new();
-    append_data(&mut out, &seen, 0x58, 0x88, &[0x00, 0xd3]);
+    let mut out = ArrayVec::<u8, DATA>::new();
+    append_data(&mut out, &seen, Access::Read, 0x58, 0x88, &[0x00, 0xd3]);
     same(&rt, "READ_VIN", out.as_slice(), &b"12 V"[..]);
     Ok(())
 }

@@ -13,6 +13,7 @@ returns c choice profile place there times theirs before n spans bus late told s
     (λ (ts : List TransactionData). record {
       pages = λ addr number is. c.all_that_is_known_is_the_context.ensures.page profile (before ++ ts) addr
           ∙ c.pieces_say_what_the_whole_says.ensures.page profile choice.start before ts addr number late is;
+      phases = λ addr number is. c.pieces_say_what_the_whole_says.ensures.phase profile before ts addr number is;
       modes = λ addr. (
         mode_of_whole profile (before ++ ts) addr,
         c.pieces_say_what_the_whole_says.ensures.mode profile choice.start before ts addr bus (so addr),

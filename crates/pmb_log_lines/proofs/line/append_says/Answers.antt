@@ -9,5 +9,5 @@ returns-in-Refusal-clause-says g c = λ known what sees stands.
     let refusal : IsRefusal c.in-Refusal.said.now c.in-Refusal.event c.in-Refusal.reason c.in-Refusal.expected what =
     subst (λ w. Stands w what) c.in-Refusal.is stands in
     called (ap (says known c.args.place) (sym refusal.is))
-    (at_most 1600 (omega arith) (c.append_refusal.ensures.says known refusal.profile refusal.front sees refusal.viable
+    (at_most 3229 (omega arith) (c.append_refusal.ensures.says known refusal.profile refusal.front sees refusal.viable
     refusal.given))

@@ -4,6 +4,7 @@ use Rattle.pmb_json_text.specs.declared.item_order.ItemOrder.{ItemOrder}
 use Rattle.pmb_json_text.specs.declared.item_order.ItemOrder.TheVariants.{First}
 use Rattle.pmb_json_text.specs.Member.{is_key, members_text}
 use Rattle.pmb_meaning.specs.Field.{SaidField, all_parts, field_parts}
+use Rattle.pmb_meaning.specs.Names.{names_of}
 use Rattle.pmb_meaning.specs.Object.{field_member}
 use Rattle.pmb_meaning.proofs.ObjectLemmas.{no_member}
 use Rattle.pmb_meaning.proofs.RowLemmas.{passes_at}
@@ -33,13 +34,15 @@ pub loop-field-preserved : goal.loop-field-preserved
 loop-field-preserved g c =
     let fields = c.args.fields.now in
     let i = c.loop-field.field-index in
+    let names = names_of c.args.device.now in
     record {
       text =
-          appended_more c.args.out.now.items (said_members First (all_parts (take i fields))) _
+          appended_more c.args.out.now.items (said_members names First (all_parts (take i fields))) _
           c.loop-field.invariant.text
-          (c.append_field.ensures.member ∙ ap (λ (p : ItemOrder). c.loop-field.out.items ++ members_text p (field_member
-          (field_parts (get_or fields i no_field)) ∷ [])) c.loop-field.invariant.place)
-          (text_more said_members said_members_in_parts field_parts fields i no_field c.loop-field-test.true);
+          (c.append_field.ensures.member ∙ ap (λ (p : ItemOrder). c.loop-field.out.items ++ members_text p
+          (field_member names (field_parts (get_or fields i no_field)) ∷ [])) c.loop-field.invariant.place)
+          (text_more (said_members names) (said_members_in_parts names) field_parts fields i no_field
+          c.loop-field-test.true);
       place = place_more fields i no_field c.loop-field-test.true;
       short = omega (arith, fields_room_more fields i no_field c.loop-field-test.true, c.append_field.ensures.short, c.loop-field.invariant.short);
     }

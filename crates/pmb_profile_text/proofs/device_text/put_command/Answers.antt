@@ -4,7 +4,7 @@ use Rattle.pmb_command.specs.Parts.{CommandParts, command_with}
 use Rattle.pmb_profile_text.proofs.Commands.{found_at}
 use Rattle.pmb_profile_text.proofs.device_text.put_command.Goals as goal
 
--- The rows are those of the command, which is the one with its code.
+-- The text is that of the command, which is the one with its code.
 pub returns-clause-puts : goal.returns-clause-puts
 returns-clause-puts g c = λ command is.
     let commands = c.args.device.now.commands in
@@ -12,4 +12,4 @@ returns-clause-puts g c = λ command is.
     let same : command.entry ≡ entry_parts c.in-Some.entry.now = cc in
     let found = subst (λ (e : EntryParts). command_with e.code commands ≡ Some command) same
     (found_at commands c.args.index command c.accepted_device.ensures.own_codes is) in
-    c.put_rows.ensures.puts command found same
+    c.put_entry.ensures.puts command found same

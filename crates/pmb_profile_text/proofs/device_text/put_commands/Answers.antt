@@ -1,5 +1,5 @@
 use Rattle.std.proofs.Common.{◌∙◌, ◌≤◌, ◌<◌, length, take, ap, refl, arith}
-use Rattle.pmb_profile_text.specs.Table.{command_rows, command_table}
+use Rattle.pmb_profile_text.specs.Table.{command_text, command_table}
 use Rattle.pmb_profile_text.proofs.Commands.{some_at}
 use Rattle.pmb_profile_text.proofs.Texts.{all_taken, puts_as, text_more}
 use Rattle.pmb_profile_text.proofs.device_text.put_commands.Goals as goal
@@ -13,9 +13,9 @@ loop-i-preserved g c =
     let i = c.loop-i.i in
     let within : i < length device.commands = omega (arith, c.loop-i-test.true, c.len-i-end.ensures.len) in
     let one = some_at device.commands i within in
-    let row = command_rows device one.0 in
+    let row = command_text device one.0 in
     record {
-      put = puts_as _ _ _ _ _ _ (text_more (command_rows device) device.commands i one.0 one.1)
+      put = puts_as _ _ _ _ _ _ (text_more (command_text device) device.commands i one.0 one.1)
           (c.texts_add_up.ensures.both (g.W.Sink.told c.args.writer.now).held (g.W.Sink.told c.loop-i.writer).held
           (g.W.Sink.told c.put_command.new.writer).held c.args.waiting.now.items c.loop-i.waiting.items
           c.put_command.new.waiting.items

@@ -28,7 +28,7 @@ same_voltages device m n p q d v mode page coefficients vid =
 
 pub returns-in-Some : goal.returns-in-Some
 returns-in-Some c known time sees =
-    let kind = c.args.entry.now.kind in
+    let kind = c.args.command.now.entry.kind in
     let bytes = c.args.bytes.now in
     let addr = c.args.addr in
     let code = c.args.code in

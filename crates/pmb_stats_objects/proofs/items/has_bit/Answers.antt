@@ -7,13 +7,13 @@ use Rattle.pmb_stats_objects.proofs.Found.{kept_some, kept_zero, no_bits, some_b
 use Rattle.pmb_stats_objects.proofs.items.has_bit.Goals as goal
 
 pub returns-then-count-gt0 : goal.returns-then-count-gt0
-returns-then-count-gt0 c = λ page entry reads stands sixteen.
+returns-then-count-gt0 c = λ page phase command reads stands sixteen.
     let bits = c.args.bits.now in
     let i = c.loop-history.history-index in
     let history = c.history-item.result in
     let here = stands i history (slice_get_read bits (length bits) i history refl c.loop-history-test.true
     c.history-item.is) in
-    sym (some_bits page entry reads 16 i (omega (arith, c.loop-history-test.true, sixteen))
+    sym (some_bits page phase command reads 16 i (omega (arith, c.loop-history-test.true, sixteen))
     (kept_some c.count.result (set_count reads i) (c.count.ensures reads i here)
     (λ none. omega (arith, none, c.if-count-gt0.true))))
 
@@ -37,7 +37,7 @@ loop-history-preserved c = record {
 }
 
 pub returns : goal.returns
-returns c = λ page entry reads stands sixteen.
-    sym (ap has_any (no_bits page entry reads 16
+returns c = λ page phase command reads stands sixteen.
+    sym (ap has_any (no_bits page phase command reads 16
     (λ bit below. c.loop-history.invariant.none reads stands bit
     (omega (arith, below, sixteen, c.loop-history-test.false)))))

@@ -1,7 +1,7 @@
 use Rattle.std.proofs.Common.{◌≡◌, List, None, Some, sym, ap, ◌∙◌, arith}
-use Rattle.pmb_command.specs.Entry.{entry_parts}
 use Rattle.pmb_command.specs.Parts.{DeviceParts, device_with}
-use Rattle.pmb_json_objects.specs.Seen.{entry_of}
+use Rattle.pmb_json_objects.specs.Seen.{command_of}
+use Rattle.pmb_keys.specs.CommandView.{command_parts}
 use Rattle.pmb_observed.specs.Observed.{reads_at}
 use Rattle.pmb_observed.specs.Observing.{observations}
 use Rattle.pmb_stats_table.specs.Rows.{bit_heading, bit_row}
@@ -18,11 +18,11 @@ returns-in_default-clause-lines g c = λ setting facts stands.
     c.args.waiting.now.items)
 
 -- a register is a command of the device
-pub returns-in_default-entry_at-clause-lines : goal.returns-in_default-entry_at-clause-lines
-returns-in_default-entry_at-clause-lines g c = λ setting facts stands.
+pub returns-in_default-command_at-clause-lines : goal.returns-in_default-command_at-clause-lines
+returns-in_default-command_at-clause-lines g c = λ setting facts stands.
     let spot = c.args.spot in
-    let absent : None ≡ entry_of (device_with spot.addr setting.profile) spot.code = c.in_default-entry_at.ensures
-    ∙ ap (λ (profile : List DeviceParts). entry_of (device_with spot.addr profile) spot.code)
+    let absent : None ≡ command_of (device_with spot.addr setting.profile) spot.code = c.in_default-command_at.ensures
+    ∙ ap (λ (profile : List DeviceParts). command_of (device_with spot.addr profile) spot.code)
     (c.profile.ensures setting facts stands) in
     puts_lines_of (bit_heading c.args.widths) (bit_row c.args.widths)
     (register_is_there setting.profile (observations setting facts) spot (c.in-Some.ensures setting facts stands).0
@@ -36,11 +36,11 @@ returns-clause-lines g c = λ setting facts stands.
     let spot = c.args.spot in
     let told = observations setting facts in
     let register = c.in-Some.ensures setting facts stands in
-    let entry = entry_parts c.in-Some-entry_at.entry.now in
-    let is : Some entry ≡ entry_of (device_with spot.addr setting.profile) spot.code = c.in-Some-entry_at.ensures
-    ∙ ap (λ (profile : List DeviceParts). entry_of (device_with spot.addr profile) spot.code)
+    let command = command_parts c.in-Some-command_at.command.now in
+    let is : Some command ≡ command_of (device_with spot.addr setting.profile) spot.code = c.in-Some-command_at.ensures
+    ∙ ap (λ (profile : List DeviceParts). command_of (device_with spot.addr profile) spot.code)
     (c.profile.ensures setting facts stands) in
     if_ok c.put_register.result (λ next lines.
     puts_lines_of (bit_heading c.args.widths) (bit_row c.args.widths)
-    (register_told setting.profile told spot entry register.0 is) lines)
+    (register_told setting.profile told spot command register.0 is) lines)
     (c.put_register.ensures.lines (reads_at spot told) register.1 (omega (arith, register.2)))

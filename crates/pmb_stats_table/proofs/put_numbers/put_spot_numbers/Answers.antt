@@ -1,7 +1,7 @@
 use Rattle.std.proofs.Common.{◌≡◌, List, None, Some, sym, ap, ◌∙◌}
-use Rattle.pmb_command.specs.Entry.{entry_parts}
 use Rattle.pmb_command.specs.Parts.{DeviceParts, device_with}
-use Rattle.pmb_json_objects.specs.Seen.{entry_of}
+use Rattle.pmb_json_objects.specs.Seen.{command_of}
+use Rattle.pmb_keys.specs.CommandView.{command_parts}
 use Rattle.pmb_observed.specs.Observed.{numbers_at}
 use Rattle.pmb_observed.specs.Observing.{observations}
 use Rattle.pmb_stats_table.specs.Rows.{number_heading, number_row}
@@ -19,11 +19,11 @@ returns-in_default-clause-lines g c = λ setting facts stands.
     (g.W.Sink.told c.args.writer.now).held c.args.waiting.now.items)
 
 -- what has numbers is a command of the device
-pub returns-in_default-entry_at-clause-lines : goal.returns-in_default-entry_at-clause-lines
-returns-in_default-entry_at-clause-lines g c = λ setting facts stands.
+pub returns-in_default-command_at-clause-lines : goal.returns-in_default-command_at-clause-lines
+returns-in_default-command_at-clause-lines g c = λ setting facts stands.
     let spot = c.args.spot in
-    let absent : None ≡ entry_of (device_with spot.addr setting.profile) spot.code = c.in_default-entry_at.ensures
-    ∙ ap (λ (profile : List DeviceParts). entry_of (device_with spot.addr profile) spot.code)
+    let absent : None ≡ command_of (device_with spot.addr setting.profile) spot.code = c.in_default-command_at.ensures
+    ∙ ap (λ (profile : List DeviceParts). command_of (device_with spot.addr profile) spot.code)
     (c.profile.ensures setting facts stands) in
     puts_lines_of (number_heading c.args.widths) (number_row c.args.widths c.args.digits)
     (command_is_there setting.profile (observations setting facts) spot (c.in-Some.ensures setting facts stands).0
@@ -36,12 +36,12 @@ pub returns-clause-lines : goal.returns-clause-lines
 returns-clause-lines g c = λ setting facts stands.
     let spot = c.args.spot in
     let told = observations setting facts in
-    let command = c.in-Some.ensures setting facts stands in
-    let entry = entry_parts c.in-Some-entry_at.entry.now in
-    let is : Some entry ≡ entry_of (device_with spot.addr setting.profile) spot.code = c.in-Some-entry_at.ensures
-    ∙ ap (λ (profile : List DeviceParts). entry_of (device_with spot.addr profile) spot.code)
+    let numbers = c.in-Some.ensures setting facts stands in
+    let command = command_parts c.in-Some-command_at.command.now in
+    let is : Some command ≡ command_of (device_with spot.addr setting.profile) spot.code = c.in-Some-command_at.ensures
+    ∙ ap (λ (profile : List DeviceParts). command_of (device_with spot.addr profile) spot.code)
     (c.profile.ensures setting facts stands) in
     if_ok c.put_command.result (λ next lines.
     puts_lines_of (number_heading c.args.widths) (number_row c.args.widths c.args.digits)
-    (command_told setting.profile told spot entry command.0 is) lines)
-    (c.put_command.ensures.lines (numbers_at spot told) command.1)
+    (command_told setting.profile told spot command numbers.0 is) lines)
+    (c.put_command.ensures.lines (numbers_at spot told) numbers.1)

@@ -12,6 +12,7 @@ device_from-requires c = λ fit. record {
   bytes = rw c.as_slice-2.ensures.value at c.are_bytes.ensures;
   one_mode = same_where_one (has_one_mode c.in-Ok-commands_of.commands) (all_same c.in-Ok.keys.modes.items) fit;
   tables = c.in-Ok.ensures.tables;
+  phases = c.in-Ok.ensures.phases;
   own_codes = c.in-Ok-commands_of.ensures.own_codes;
   commands = commands_of c.in-Ok.keys.pages c.in-Ok-commands_of.commands c.in-Ok-commands_of.ensures.accepted;
   items = items_of c.in-Ok.keys.pages c.in-Ok-commands_of.commands c.in-Ok-commands_of.ensures.accepted;

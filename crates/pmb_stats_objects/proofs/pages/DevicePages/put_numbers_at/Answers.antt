@@ -1,30 +1,30 @@
 use Rattle.std.proofs.Common.{ap, map, sym}
-use Rattle.pmb_command.specs.Entry.{entry_parts}
+use Rattle.pmb_keys.specs.CommandView.{command_parts}
 use Rattle.pmb_observed.specs.Observing.{observations}
-use Rattle.pmb_observed.specs.Spot.{entry_on, is_numeric, spot_at}
+use Rattle.pmb_observed.specs.Spot.{command_on, is_numeric, spot_at}
 use Rattle.pmb_stats_objects.specs.Pages.{numbers_item}
 use Rattle.pmb_stats_objects.proofs.Putting.{called_items, none_put, on_ok}
-use Rattle.pmb_stats_objects.proofs.Spots.{entry_is, no_command, some_command}
+use Rattle.pmb_stats_objects.proofs.Spots.{command_is, no_command, some_command}
 use Rattle.pmb_stats_objects.proofs.pages.DevicePages.put_numbers_at.Goals as goal
 
 -- the profile has none there
 pub returns-in_default-clause-puts : goal.returns-in_default-clause-puts
 returns-in_default-clause-puts g c = λ setting facts stands.
-    let spot = spot_at c.args.self.now.addr c.args.code c.args.page in
+    let spot = spot_at c.args.self.now.addr c.args.code c.args.page c.args.phase in
     let lacks = rw c.spot.ensures at (c.in_default.ensures setting facts stands.stats) in
     called_items (sym (ap (map (numbers_item c.args.self.now.digits)) (no_command
-    (observations setting facts) spot (entry_on setting.profile spot) lacks)))
+    (observations setting facts) spot (command_on setting.profile spot) lacks)))
     (none_put c.args.place.now (c.texts_add_up.ensures.nothing _ _))
 
 pub returns-clause-puts : goal.returns-clause-puts
 returns-clause-puts g c = λ setting facts stands.
-    let spot = spot_at c.args.self.now.addr c.args.code c.args.page in
+    let spot = spot_at c.args.self.now.addr c.args.code c.args.page c.args.phase in
     let told = observations setting facts in
     let there = rw c.spot.ensures at (c.in-Some.ensures setting facts stands.stats) in
-    let entry = entry_parts c.in-Some-entry.entry.now in
-    let is = entry_is setting.profile c.args.self.now.profile.now spot stands.device entry is_numeric
-    (sym c.in-Some-entry.ensures.entry) there.0 in
+    let command = command_parts c.in-Some-command.command.now in
+    let is = command_is setting.profile c.args.self.now.profile.now spot stands.device command is_numeric
+    (sym c.in-Some-command.ensures) there.0 in
     on_ok c.put_command_numbers.result (λ puts.
     called_items (sym (ap (map (numbers_item c.args.self.now.digits)) (some_command told spot
-    (entry_on setting.profile spot) entry there.0 is))) puts)
+    (command_on setting.profile spot) command there.0 is))) puts)
     (c.put_command_numbers.ensures.puts c.args.page _ there.1)

@@ -2,7 +2,7 @@ use Rattle.std.proofs.Common.{◌≡◌, ◌∙◌, ℕ, ap, arith, map, refl, s
 use Rattle.std.specs.List.{flat_map, range_with_len}
 use Rattle.std.proofs.lemmas.List.{map-append}
 use Rattle.pmb_observed.specs.Observing.{observations}
-use Rattle.pmb_observed.specs.Told.{spot_numbers}
+use Rattle.pmb_observed.specs.Told.{code_numbers}
 use Rattle.pmb_stats_objects.specs.Pages.{numbers_item}
 use Rattle.pmb_stats_objects.proofs.Lists.{next_number}
 use Rattle.pmb_stats_objects.proofs.Putting.{no_ok}
@@ -15,26 +15,26 @@ loop-code-init g c = record {
   failures = refl;
 }
 
-pub returns-in_err-put_numbers_at-clause-puts : goal.returns-in_err-put_numbers_at-clause-puts
-returns-in_err-put_numbers_at-clause-puts g c = λ setting facts stands. no_ok _ c.from_residual.result
+pub returns-in_err-put_code_numbers-clause-puts : goal.returns-in_err-put_code_numbers-clause-puts
+returns-in_err-put_code_numbers-clause-puts g c = λ setting facts stands. no_ok _ c.from_residual.result
     c.from_residual.ensures.0
 
 pub loop-code-preserved : goal.loop-code-preserved
 loop-code-preserved g c = record {
   put = λ setting facts stands.
-      let found = spot_numbers setting.profile (observations setting facts) c.args.self.now.addr c.args.page in
+      let found = code_numbers setting.profile (observations setting facts) c.args.self.now.addr c.args.page in
       let code = c.loop-code.code in
       called_items (sym (map-append (numbers_item c.args.self.now.digits) (flat_map found (range_with_len 0 code))
       (found code))
       ∙ ap (map (numbers_item c.args.self.now.digits)) (next_number found code))
       (both_put c.texts_add_up.ensures.both (c.loop-code.invariant.put setting facts stands)
-      (c.in_ok-put_numbers_at.ensures.puts setting facts stands));
-  failures = c.in_ok-put_numbers_at.ensures.failed ∙ c.loop-code.invariant.failures;
+      (c.in_ok-put_code_numbers.ensures.puts setting facts stands));
+  failures = c.in_ok-put_code_numbers.ensures.failed ∙ c.loop-code.invariant.failures;
 }
 
 pub returns-clause-puts : goal.returns-clause-puts
 returns-clause-puts g c = λ setting facts stands.
     let all : c.loop-code.code ≡ 256 = omega (arith, c.loop-code-test.false, c.loop-code.auto.code-end) in
-    called_items (ap (λ (n : ℕ). map (numbers_item c.args.self.now.digits) (flat_map (spot_numbers setting.profile
+    called_items (ap (λ (n : ℕ). map (numbers_item c.args.self.now.digits) (flat_map (code_numbers setting.profile
     (observations setting facts)
     c.args.self.now.addr c.args.page) (range_with_len 0 n))) all) (c.loop-code.invariant.put setting facts stands)

@@ -3,7 +3,7 @@ use Rattle.std.specs.List.{flat_map, range_with_len}
 use Rattle.pmb_facts.specs.Fact.{FactData}
 use Rattle.pmb_keeper.specs.Setting.{Setting}
 use Rattle.pmb_observed.specs.Observing.{observations}
-use Rattle.pmb_observed.specs.Told.{spot_numbers}
+use Rattle.pmb_observed.specs.Told.{code_numbers}
 use Rattle.pmb_stats_objects.specs.Pages.{numbers_item}
 use Rattle.pmb_stats_objects.specs.machine.Standing.{PagesStand}
 use Rattle.pmb_stats_objects.specs.machine.Written.{PutsItems}
@@ -13,7 +13,7 @@ use Rattle.pmb_stats_objects.proofs.pages.DevicePages.put_page_numbers.Given as 
 abbrev pub invariant-loop-code : goal.invariant-loop-code
 invariant-loop-code g l = record {
   put : (setting : Setting) (facts : List FactData) → PagesStand l.self setting facts
-      → PutsItems (map (numbers_item l.self.digits) (flat_map (spot_numbers setting.profile
+      → PutsItems (map (numbers_item l.self.digits) (flat_map (code_numbers setting.profile
       (observations setting facts) l.self.addr l.page)
       (range_with_len 0 l.code)))
       (g.W.Sink.told l.fn.writer).held l.fn.waiting.items l.fn.place (g.W.Sink.told l.writer).held l.waiting.items

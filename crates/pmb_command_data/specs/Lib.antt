@@ -1,0 +1,4 @@
+pub mod Standard
+pub mod Bits
+pub mod Text
+pub mod Phases

@@ -1,6 +1,0 @@
-use Rattle.pmb_json.proofs.PieceMembers.{number_said}
-use Rattle.pmb_json.proofs.laws.numbers_of_pieces_are_of_the_whole.Goals as goal
-
-pub returns : goal.returns
-returns c timing piece whole m no_more here number =
-    number_said piece.members whole.members m no_more.members here number

@@ -1,5 +1,0 @@
-use Rattle.pmb_note.proofs.StatusLemmas.{short_name}
-use Rattle.pmb_stats_objects.proofs.bit.name_of_bit.Goals as goal
-
-pub returns-clause-short : goal.returns-clause-short
-returns-clause-short c = short_name c.bit_name.result c.args.code c.args.bit c.bit_name.ensures

@@ -1,8 +1,0 @@
-use Rattle.std.proofs.Common.{refl}
-use Rattle.pmb_units.specs.Units.{unit_rows}
-use Rattle.pmb_units.proofs.units.rows.Goals as goal
-
--- the whole table, computed
-pub returns : goal.returns
-unfolding unit_rows
-returns c = refl

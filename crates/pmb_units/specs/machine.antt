@@ -1,2 +1,0 @@
--- What private parts of the code say. No public contract is understood by these.
-pub mod Rows
