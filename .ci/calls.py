@@ -238,6 +238,9 @@ def is_of(value, hint):
         return value in among
     if origin is list:
         return type(value) is list and all(is_of(each, among[0]) for each in value)
+    if origin is dict:
+        return type(value) is dict and all(
+            is_of(key, among[0]) and is_of(each, among[1]) for key, each in value.items())
     # (a number without a point is an int)
     return type(value) is hint or hint is float and type(value) is int
 
@@ -250,7 +253,7 @@ def compare_object(it):
         hint = HINTS[kind].get(key)
         check(hint is not None and is_of(value, hint), f"{kind}: {key} is {value!r}, not {hint}")
         WITH_KEY[kind, key] += 1
-        WORDS[kind, key].update(value if isinstance(value, list) else [value])
+        WORDS[kind, key].update(value if isinstance(value, (list, dict)) else [value])
 
 
 def words_of(hint):
@@ -269,13 +272,14 @@ def told_of_kinds():
         kind, _, keys = row.strip("|").split("|")
         kind, found = kind.strip(" `"), {"kind", *re.findall("`([a-z_]+)`", keys)}
         if "what the data mean" in keys:
-            found |= {"value", "number", "ratio", "mode", "raw", "bits" if kind == "read" else "clears"}
+            found |= {"value", "number", "ratio", "mode", "unit", "raw", "text", "says"}
+            found.add("bits" if kind == "read" else "clears")
         if kind not in ("device", "end"):
             found |= {"at", "line", "column", "time"}
         yield kind, found
 
 
-# Devices whose output voltages can't be read, each for another reason, and one with a name.
+# Devices whose output voltages can't be read, each for another reason, and one with a name and phases.
 RARE = """ignore = [0x50]
 [[device]]
 address = 0x58
@@ -283,7 +287,11 @@ pec = "optional"
 name = "U1"
 pages = 2
 vout_mode = [0x14, 0x13]
-command = [{ code = 0xe0, name = "ASK", call = "two", paged = true }]
+phases = 2
+command = [
+    { code = 0xe0, name = "ASK", call = "two", paged = true, phased = true },
+    { name = "VOUT_COMMAND", phased = true }, { name = "READ_VOUT", phased = true, unit = "mV" },
+]
 """
 for address, mode in ((0x60, 0x20), (0x61, 0x40), (0x62, 0x60), (0x63, 0x97), (0x64, 0x20), (0x65, 0xa0)):
     RARE += f"[[device]]\naddress = {address}\npec = 'optional'\nvout_mode = {mode}\n"
@@ -309,6 +317,9 @@ def compare_kinds_of_objects(program):
     lines += ["S b0 A e0 A 01 A 02 A S b1 A 05 A 06 N P", "S 19 A b0 N P", "S 19 N P", "S a0 N P"]
     lines += ["S c0 A 03 A S b0 A 03 A P", "S c0 A 03 A S b0 A 21 N P", "S b0 A 88 A S b1 N P"]
     lines += ["S b0 hm", "S b0 A 03 A 46 N P", "S b0 A 03 A 47 N P", "S b0 N P", "S b0 A 7a A 80 A P"]
+    lines += ["S b0 A 99 A 01 A 41 A P", "S b0 A 99 A S b1 A 02 A 22 A 5c N P", "S b0 A 01 A 80 A P"]
+    lines += ["S b0 A 98 A S b1 A 33 N P", "S b0 A 20 A S b1 A 13 N P", "S b0 A 10 A 40 A P"]
+    lines += ["S b0 A 1b A 01 A 7a A S b1 A 01 A 10 N P", "S b0 A 04 A ff A P"]
     lines += ["S b0 A 00 A ff A P", "S b0 A 8b A S b1 A 00 A 18 N P", "S b0 A 21 A 00 A 18 A P"]
     lines += ["S b0 A e0 A 01 A 02 A S b1 A 05 A 06 N P"]
     lines += ["S b0 A 21 N P", "S b0 A 21 A 00 A 18 A A P", "S b0 A 88 A S b1 A 00 A d3 A f7 A P"]

@@ -19,18 +19,27 @@ def keys_of_a_kind(it: Object) -> None:
         value: str = it["value"]
         number: float = it["number"]
         bits: List[str] = it["bits"]
+        unit: str = it["unit"]
+        text: str = it["text"]
+        phase: Union[int, str, None] = it["phase"]
+        field: Union[str, int, bool, List[str]] = it["says"]["mode"]
         address: int = it["address"]
         print(it["vlaue"])  # type: ignore[typeddict-item]
         print(it["clears"])  # type: ignore[typeddict-item]
         print(it["adress"])  # type: ignore[typeddict-item]
         device: int = it["device"]  # type: ignore[assignment]
-        print(read, value, number, bits, address, device, line, time)
+        print(it["unit"] == 1)  # type: ignore[comparison-overlap]
+        print(it["says"] + "")  # type: ignore[operator]
+        print(read, value, number, bits, unit, text, phase, field, address, device, line, time)
     elif it["kind"] == "bad_token":
         bad: BadToken = it
         print(bad["word"])
         print(it["device"])  # type: ignore[typeddict-item]
     elif it["kind"] == "alert":
         print(it["device"] + "")  # type: ignore[operator]
+    elif it["kind"] == "call":
+        print(it["says"], it["phase"])
+        print(it["text"])  # type: ignore[typeddict-item]
     elif it["kind"] == "refused":
         print(it["refused"] == "adress")  # type: ignore[comparison-overlap]
     elif it["kind"] == "raed":  # type: ignore[comparison-overlap]

@@ -228,6 +228,12 @@ static const struct bad {
     {DEVICE COMMAND "name = \"PAGE\"\n" COMMAND "name = \"PAGE\"", PMB_CODE_TWICE, 0, 1},
     {DEVICE COMMAND "name = \"READ_VIN\"\ninitial = \"00\"", PMB_BAD_INITIAL, 0, 0},
     {DEVICE COMMAND "name = \"READ_VIN\"\ninitial = [\"00d3\", \"00d3\"]", PMB_BAD_INITIAL, 0, 0},
+    {DEVICE "phases = 0", PMB_BAD_VALUE, 0, -1},
+    {DEVICE COMMAND "name = \"READ_VIN\"\nunit = \"\"", PMB_BAD_VALUE, 0, 0},
+    {DEVICE COMMAND "name = \"MFR_ID\"\nunit = \"V\"", PMB_UNKNOWN_KEY, 0, 0},
+    {DEVICE COMMAND "name = \"STATUS_CML\"\nbits = { 8 = \"A\" }", PMB_BAD_VALUE, 0, 0},
+    {DEVICE COMMAND "name = \"STATUS_CML\"\nbits = { 0 = \"A\", 1 = \"A\" }", PMB_BAD_NAME, 0, 0},
+    {DEVICE COMMAND "name = \"READ_IOUT\"\nphased = 1", PMB_WRONG_TYPE, 0, 0},
 };
 
 static int is_refused(const char *toml, size_t length, int fault, int device, int command)

@@ -117,12 +117,33 @@ def lists_of_pages(size):
     return "".join(text) + "#" * room
 
 
+def units_and_bits(size, key):
+    """Devices whose commands have a key of the longest kind, as many as there is room for."""
+    codes = [c for c in range(256) if c not in (0x00, 0x03, 0x20, 0x30, 0x7e)]
+    text, room = [], size
+    for address in range(0x10, 0x50):
+        head = f"[[device]]\naddress={address}\npec='off'\nstandard=false\nphases=255\n"
+        items = [f"[[device.command]]\ncode={code}\nread='two'\nphased=true\n{key}\n" for code in codes]
+        for item in [head] + items if len(head) <= room else []:
+            if len(item) > room:
+                break
+            text.append(item)
+            room -= len(item)
+    return "".join(text) + "#" * room
+
+
+LONG_UNIT = "kind='half'\nunit='0123456789abcdef'"
+LONG_BITS = "kind='status'\nbits={%s}" % ",".join(f"{bit}='{bit:X}{'A' * 31}'" for bit in range(16))
+
+
 def profiles():
     """The name of each, its bytes, and what is answered."""
     for size in (LIMIT, LIMIT - 1):
         yield f"64 x 256 commands, {size}", all_commands(size), TAKEN
         yield f"blocks of 255 bytes, {size}", long_initials(size), TAKEN
         yield f"a mode and blocks of each of 32 pages, {size}", lists_of_pages(size), TAKEN
+        yield f"commands with units, {size}", units_and_bits(size, LONG_UNIT), TAKEN
+        yield f"commands with names of 16 bits, {size}", units_and_bits(size, LONG_BITS), TAKEN
     first = " in device 0 command 0"
     not_toml = refused("NotToml")
     unknown = refused("UnknownKey")
@@ -230,6 +251,12 @@ def profiles():
     yield "the longest name", fill(command + "code=1\nname='", "A", "'"), refused("BadName", first)
     yield ("the longest name of a device",
            fill("[[device]]\naddress=16\npec='off'\nname='", "A", "'"), refused("BadName", " in device 0"))
+    word = command + "name='STATUS_WORD'\nbits={"
+    yield "the longest unit", fill(command + "name='READ_VIN'\nunit='", "a", "'"), refused("BadValue", first)
+    yield "the longest name of a bit", fill(word + "0='", "A", "'}"), refused("BadName", first)
+    yield "the longest number of a bit", fill(word, "0", "='A'}"), refused("BadValue", first)
+    yield ("the most names of bits",
+           numbered(word, lambda n: f"{n}='A{n}'", "}", joint=","), refused("BadValue", first))
     yield "the longest name of none", fill(command + "name='", "A", "'"), refused("UnknownName", first)
 
     # numbers

@@ -139,7 +139,7 @@ class Bench:
 
     def format_asked(self, device, entry, request):
         """The number format of a set or a get."""
-        if entry.kind in ("raw", "status"):
+        if not entry.is_number():
             raise Fault("NotAQuantity")
         fault = check_pec(device, request.pec)
         if fault:

@@ -11,8 +11,9 @@ PROFILES = (
     ([], profiles.ODD_TEXT + b"%%\n", profiles.ODD),
     ([], profiles.UNLIKE_TEXT + b"%%\n", profiles.UNLIKE),
     ([], profiles.VOLTS_TEXT + b"%%\n", profiles.VOLTS),
+    ([], profiles.NAMED_TEXT + b"%%\n", profiles.NAMED),
 )
-OFTEN = (0x00, 0x03, 0x20, 0x21, 0x22, 0x25, 0x30, 0x79, 0x7E, 0x88, 0x99)
+OFTEN = (0x00, 0x01, 0x03, 0x04, 0x1B, 0x20, 0x21, 0x22, 0x25, 0x30, 0x79, 0x7E, 0x88, 0x8C, 0x99)
 
 
 def some_bytes(chance, count):
@@ -107,7 +108,7 @@ def is_asked(kind, entry):
     """Whether a command is one for a request of a kind."""
     if kind in ("read", "call"):
         return entry.read if kind == "read" else entry.call
-    return entry.kind not in ("raw", "status")
+    return entry.is_number()
 
 
 def request_line(chance, profile):
@@ -120,7 +121,7 @@ def request_line(chance, profile):
     if kind == "call":
         words += ["%02x" % byte for byte in data(chance, entry.call)]
     if kind == "set":
-        of_mode = entry.is_voltage() or entry.kind in ("raw", "status")
+        of_mode = entry.is_voltage() or not entry.is_number()
         form = ("ulinear16", -9) if of_mode else entry.number_format()
         words.append(quantity(chance, form if chance.random() < 0.7 else ("ulinear16", -9)))
     return " ".join(words + (["pec"] if pec else []))
@@ -142,6 +143,7 @@ def rows_under(chance, flag, front, profile):
     some = capture(chance, profile, chance.randrange(1, 7)).encode()
     timed = traffic.capture(chance, profile, lambda: packet(chance, profile)).encode()
     volts = traffic.voltages(chance, profile).encode()
+    fields = traffic.fields(chance, profile).encode()
     drawn = [lines.line_of(transaction(chance, profile)) for _ in range(6)]
     asked = [request_line(chance, profile) for _ in range(12)]
     return [
@@ -150,7 +152,11 @@ def rows_under(chance, flag, front, profile):
         (["log", *flag, *flags(chance, profile)], front + timed),
         (["json", *flag, *flags(chance, profile)], front + volts),
         (["log", *flag, *flags(chance, profile)], front + volts),
-        (["stats", *flag, *chance.choice(([], ["--json"], ["--json", "--late"]))], front + volts),
+        (["json", *flag, *flags(chance, profile)], front + fields),
+        (["log", *flag, *flags(chance, profile)], front + fields),
+        (["stats", *flag, *chance.choice(([], ["--json"], ["--json", "--late"]))],
+         front + chance.choice((volts, fields))),
+        (["stats", *flag, *chance.choice((["--json"], ["--fail-on", "faults"]))], front + fields),
         (["build", *flag], front + "\n".join(drawn).encode()),
         (["run", *flag], front + "\n".join(asked).encode()),
     ]
@@ -222,12 +228,13 @@ def spoiled(chance, table, seldom=0.01):
     """A table with a key too many, one too few, or a value of another type, now and then."""
     table = {key: value for key, value in table.items() if value is not None}
     if chance.random() < seldom:
-        keys = ("colour", "m", "code", "name", "address", "vid", "unsigned", "exponent")
+        keys = ("colour", "m", "code", "name", "address", "vid", "unsigned", "exponent", "unit",
+                "bits", "phased", "phases")
         table[chance.choice(keys)] = 1
     for key in list(table):
         if chance.random() < seldom:
             others = (1.5, "x", True, 7, -1, 300, [], {}, [7], [1.5, 7], ["00", 7], {"1": 7},
-                      "vr12", ["vr12", 7], {"1": "vr12", "x": "vr12"})
+                      "vr12", ["vr12", 7], {"1": "vr12", "x": "vr12"}, {"7": "A", "8": "B"})
             table[key] = chance.choice(others)
         elif chance.random() < seldom / 3:
             del table[key]
@@ -271,6 +278,7 @@ def device_table(chance):
         "command": commands or None,
         "name": often(chance, 0.4, device_name(chance)),
         "vid": often(chance, 0.5, vid_tables(chance, pages or 1)),
+        "phases": often(chance, 0.35, 1, 2, 4, 255, chance.choice((0, 2, 2, 256))),
     })
 
 
@@ -304,6 +312,25 @@ def device_name(chance):
     return drawn + chance.choice("\t\x1f\x7f\xe9\u2126") if chance.random() < 0.05 else drawn
 
 
+def unit(chance):
+    """A unit; seldom one that is too long, or has another character."""
+    length = chance.choice((1, 2, 16, chance.randrange(18)))
+    drawn = "".join(chr(chance.randrange(0x20, 0x7F)) for _ in range(length))
+    return drawn + chance.choice("\t\x1f\x7f\xb0\u2126") if chance.random() < 0.05 else drawn
+
+
+def bits(chance, count):
+    """Names of bits; seldom a bit that there isn't, a name that is none, or one twice."""
+    chosen = chance.sample(range(count), chance.choice((0, 1, 2, 3, count)))
+    found = {str(bit): "BIT_%d" % bit for bit in chosen}
+    if chance.random() < 0.05:
+        found[chance.choice(("8", "15", "16", "01", "x"))] = "OTHER"
+    if found and chance.random() < 0.05:
+        bit = chance.choice(list(found))
+        found[bit] = chance.choice(("a", "", "BIT_0", "BIT_3", "A" * 33, 1))
+    return found
+
+
 def coefficients_table(chance):
     return spoiled(chance, {
         "m": chance.choice((1, -1, 3, 6720, -32768, 32767, chance.choice((0, 32768, 5)))),
@@ -323,9 +350,9 @@ def vout_direct(chance):
 def command_table(chance, pages):
     """A standard command changed, or one of its own, most often with parts that go together."""
     form = chance.choice(("one", "two", "two", "two", "four", "eight", "block"))
-    kind = "raw"
+    kind = chance.choice(("raw", "raw", "raw", "text", "status" if form == "one" else "raw"))
     if form == "two":
-        of_old = ("linear11", "vout", "vout_signed", "direct", "direct", "status", "raw")
+        of_old = ("linear11", "vout", "vout_signed", "direct", "direct", "status", "raw", "text")
         of_new = ("half", "ulinear16", "slinear16", "vid:" + chance.choice(TABLES))
         kind = chance.choice(of_old + of_new)
     elif chance.random() < 0.02:
@@ -343,6 +370,9 @@ def command_table(chance, pages):
         "paged": often(chance, 0.5, True, False),
         "initial": often(chance, 0.2, "41" * size, "fF" * size, "4" * size),
         "unsigned": often(chance, 0.4 if kind == "direct" else 0.02, True, True, False),
+        "unit": often(chance, 0.02 if kind in ("raw", "status", "text") else 0.4, unit(chance)),
+        "bits": often(chance, 0.6 if kind == "status" else 0.01, bits(chance, 8 if form == "one" else 16)),
+        "phased": often(chance, 0.2, True, True, False),
     }
     if command["paged"] and chance.random() < 0.3 or chance.random() < 0.02:
         command["initial"] = of_each_page(chance, pages, lambda: digits(chance, size))
@@ -351,8 +381,10 @@ def command_table(chance, pages):
     if chance.random() < 0.4:
         del command["code"]
         names = [entry.name for entry in profiles.STANDARD if entry.code in OFTEN]
-        command["name"] = chance.choice((*names, "VIN_ON", "READ_VOUT", "OPERATION", "MFR_IDS"))
-        for key in ("write", "read", "call", "kind", "paged", "exponent", "initial", "unsigned"):
+        command["name"] = chance.choice((
+            *names, "VIN_ON", "READ_VOUT", "OPERATION", "STATUS_VOUT", "IOUT_CAL_GAIN", "MFR_IDS"))
+        for key in ("write", "read", "call", "kind", "paged", "exponent", "initial", "unsigned",
+                    "unit", "bits", "phased"):
             if chance.random() < 0.8:
                 command[key] = None
         if chance.random() < 0.2:

@@ -1,4 +1,5 @@
-"""What is known of PAGE and VOUT_MODE where a capture may begin in the middle, by docs/json.md."""
+"""What is known of PAGE, PHASE and VOUT_MODE where a capture may begin in the middle, by
+docs/json.md."""
 
 from .packets import Read, Refused, Write
 from .profiles import ALL_PAGES
@@ -14,13 +15,14 @@ def untells(code, data):
 
 
 class Known:
-    """PAGE of each device, and VOUT_MODE of each of its pages, as far as they are known: None where
-    they are not."""
+    """PAGE and PHASE of each device, and VOUT_MODE of each of its pages, as far as they are known: None
+    where they are not."""
 
     def __init__(self, profile, is_late=False, is_fixed=False):
         self.profile = profile
         self.is_told = is_late and not is_fixed  # VOUT_MODE is what was told alone
         self.pages = {}
+        self.phases = dict.fromkeys(device.address for device in profile.devices)
         self.modes = {}
         for device in profile.devices:
             modes = [None] * device.pages if self.is_told else list(device.modes)
@@ -53,6 +55,8 @@ class Known:
     def tell(self, address, code, data):
         if code == 0x00:
             self.pages[address] = data[0]
+        if code == 0x04 and len(data) == 1:
+            self.phases[address] = data[0]
         if code == 0x20:
             self.tell_mode(address, data[0])
 

@@ -1,14 +1,10 @@
 """What `pmb log` writes of a capture, by docs/log.md: a line for each packet, part, refusal and bad
 token."""
 
-from . import numbers, objects, packets, reading, voltages
+from . import meaning, numbers, objects, packets, reading, voltages
 from .known import UNKNOWN, Known
 from .packets import ACK, ALERT, START, STOP, Alert, NoAlert, Refused, Write
-from .profiles import ALL_PAGES, STANDARD, rows_under
-
-# The unit of each standard command's numbers, by its code; a dash where they have none.
-UNITS = {int(row[0], 16): row[7] for row in rows_under("The standard commands")}
-NAMES = {entry.code: (entry.name, entry.kind) for entry in STANDARD}
+from .profiles import ALL_PAGES
 
 # Why a VOUT_MODE gives no number, and what words without a value are called.
 MODES = {"relative": "relative", "vid": "VID", "coefficients": "DIRECT, no coefficients"}
@@ -35,12 +31,6 @@ def after(some_bytes):
 
 def part_of(number, count):
     return " (part %d of %d)" % (number, count) if count > 1 else ""
-
-
-def unit(entry):
-    """The standard's unit, where the command is the standard's by name and kind."""
-    is_standard = NAMES.get(entry.code) == (entry.name, entry.kind)
-    return " " + UNITS[entry.code] if is_standard and UNITS[entry.code] != "–" else ""
 
 
 def event_text(event):
@@ -110,17 +100,35 @@ class Lines:
 
     # data
 
-    def data(self, address, code, data):
-        """What data of a command say."""
-        device = self.profile.device(address)
-        entry = device.entry(code)
-        if entry.kind == "raw" or not data:
+    def data(self, told, data, form):
+        """What data of a part or of a read say, which go in a form."""
+        device = self.profile.device(told.address)
+        entry = device.entry(told.code)
+        if entry.has_text(form):
+            return objects.text_of(data) or digits(data)
+        if not data:
             return digits(data)
         if entry.kind == "status":
-            return " ".join(objects.bit_names(code, data)) or "no bits"
+            return " ".join(objects.bit_names(device, told.code, data)) or "no bits"
         if entry.is_voltage():
             return self.voltage(device, entry, data)
-        return self.number(voltages.Way(entry.number_format(), False), entry, data, "")
+        if entry.is_number():
+            return self.number(voltages.Way(entry.number_format(), False), entry, data, "")
+        return digits(data) + self.fields(told)
+
+    def fields(self, told):
+        """What the fields of the data of a part, a read or a call say, where they have some."""
+        found = meaning.fields(self.profile.device(told.address), told.code, told)
+        return " (%s)" % meaning.as_words(found) if found else ""
+
+    def phase(self, told):
+        """The selected phase, where the command has a value for each."""
+        device = self.profile.device(told.address)
+        if not device.has_phases(device.entry(told.code)):
+            return ""
+        phase = self.known.phases[told.address]
+        words = {None: "phase unknown", ALL_PAGES: "all phases"}
+        return " (%s)" % words.get(phase, "phase %s" % phase)
 
     def number(self, way, entry, data, mark):
         """A number with its unit and a mark, or a factor; or the bytes, and why they have no value."""
@@ -128,7 +136,8 @@ class Lines:
             value = numbers.decode(way.form, objects.word_of(data))
         except numbers.Fault as fault:
             return digits(data) + " (%s)" % WORDLESS[str(fault)]
-        says = " of VOUT_COMMAND" if way.is_ratio else unit(entry)
+        unit = "" if entry.unit is None else " " + entry.unit
+        says = " of VOUT_COMMAND" if way.is_ratio else unit
         return objects.rounded(value, self.choice.digits) + says + mark
 
     def voltage(self, device, entry, data):
@@ -176,12 +185,14 @@ class Lines:
             return "sent"
         entry = self.entry((part.address, part.code))
         verb = "clear " if entry.kind == "status" else "write "
-        return verb + self.data(part.address, part.code, part.data)
+        return verb + self.data(part, part.data, entry.write) + self.phase(part)
 
     def replied(self, transaction):
         if isinstance(transaction, packets.Call):
-            return "call %s, reply %s" % (digits(transaction.data), digits(transaction.reply))
-        return self.data(transaction.address, transaction.code, transaction.reply)
+            both = "call %s, reply %s" % (digits(transaction.data), digits(transaction.reply))
+            return both + self.fields(transaction)
+        entry = self.entry((transaction.address, transaction.code))
+        return self.data(transaction, transaction.reply, entry.read) + self.phase(transaction)
 
     def refused(self, place, count, refused):
         address, sent = refused.address, list(refused.sent)

@@ -53,7 +53,7 @@ def data_note(context, address, code, data):
     device = context.profile.device(address)
     entry = device.entry(code)
     word = sum(byte << 8 * i for i, byte in enumerate(data))
-    if entry.kind == "raw" or not data:
+    if entry.kind in ("raw", "text") or not data:
         return entry.name
     if entry.kind == "status":
         bits = [

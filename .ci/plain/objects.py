@@ -3,10 +3,10 @@
 from functools import partial
 from typing import NamedTuple, Optional
 
-from . import numbers, packets, reading, voltages
+from . import meaning, numbers, packets, reading, voltages
 from .known import UNKNOWN, Known
 from .packets import ACK, ALERT, START, STOP, Alert, Call, NoAlert, Refused, Write
-from .profiles import ALL_PAGES, bit_name
+from .profiles import ALL_PAGES
 from .times import last_time
 
 COUNTED = ("writes", "reads", "calls", "refused", "refusals")
@@ -55,11 +55,16 @@ def rounded(number, places):
     return ("-" if units < 0 else "") + whole + ("." + part if part else "")
 
 
-def bit_names(code, data):
+def bit_names(device, code, data):
     """The names of the bits that are set, highest first."""
     word = word_of(data)
     bits = [bit for bit in range(8 * len(data) - 1, -1, -1) if word >> bit & 1]
-    return [bit_name(code, bit) or "bit%d" % bit for bit in bits]
+    return [device.bit_name(code, bit) or "bit%d" % bit for bit in bits]
+
+
+def text_of(data):
+    """Characters as a string, or None where one of them can't be printed."""
+    return escaped(data) if all(0x20 <= byte <= 0x7E for byte in data) else None
 
 
 def word_of(data):
@@ -110,38 +115,52 @@ class Objects:
         return members if name is None else members + [("name", escaped(name.encode()))]
 
     def command(self, address, code):
-        """Code, name, and the page of a paged command."""
+        """Code, name, and the page and the phase of a command that has one."""
         members = [("code", digits_of([code]))]
         device = self.profile.device(address)
         entry = device and device.entry(code)
         if entry:
             members.append(("command", string(entry.name)))
+            texts = {None: "null", ALL_PAGES: string("all")}
             if entry.paged:
                 page = self.known.pages[address]
-                texts = {None: "null", ALL_PAGES: string("all")}
                 members.append(("page", texts.get(page, str(page))))
+            if device.has_phases(entry):
+                phase = self.known.phases[address]
+                members.append(("phase", texts.get(phase, str(phase))))
         return members
 
-    def meaning(self, address, code, data, is_write):
-        """What data of a command say."""
-        device = self.profile.device(address)
-        entry = device.entry(code)
-        if entry.kind == "raw" or not data:
-            return []
-        if entry.kind == "status":
-            return [("clears" if is_write else "bits", array(bit_names(code, data)))]
+    def meaning(self, told, data, is_write):
+        """What data of a part or of a read say."""
+        device = self.profile.device(told.address)
+        entry = device.entry(told.code)
+        members = []
+        if data and entry.kind == "status":
+            members = [("clears" if is_write else "bits", array(bit_names(device, told.code, data)))]
+        if data and entry.is_number():
+            members = self.number(device, entry, data)
+        if entry.has_text(entry.write if is_write else entry.read):
+            members += [("text", text) for text in [text_of(data)] if text is not None]
+        return members + self.says(told)
+
+    def number(self, device, entry, data):
+        """A number, a factor, or why a word has no value."""
         try:
             way = self.way(device, entry)
             number = numbers.decode(way.form, word_of(data))
         except numbers.Fault as fault:
             return [("raw", string(voltages.WORDLESS.get(str(fault), str(fault))))]
-        members = [("value", string(numbers.text(number))),
-                   ("number", rounded(number, self.choice.digits))]
+        mark = [("mode", string("assumed"))] if self.is_assumed(device, entry) else []
         if way.is_ratio:
-            members = [("ratio", string(numbers.text(number)))]
-        if self.is_assumed(device, entry):
-            members.append(("mode", string("assumed")))
-        return members
+            return [("ratio", string(numbers.text(number)))] + mark
+        unit = [("unit", escaped(entry.unit.encode()))] if entry.unit is not None else []
+        return [("value", string(numbers.text(number))),
+                ("number", rounded(number, self.choice.digits))] + mark + unit
+
+    def says(self, told):
+        """What the fields of the data of a part, a read or a call say, where they have some."""
+        found = meaning.fields(self.profile.device(told.address), told.code, told)
+        return [("says", meaning.as_object(found))] if found else []
 
     def way(self, device, entry):
         """How a number is read; a fault where it can't be."""
@@ -183,7 +202,7 @@ class Objects:
                  + self.part_members(number, count)
                  + self.named(part.address) + self.command(part.address, part.code)
                  + [("bytes", digits_of(part.data)), ("pec", flag(part.pec))]
-                 + self.meaning(part.address, part.code, part.data, True))
+                 + self.meaning(part, part.data, True))
 
     def reply(self, place, transaction):
         address, code = transaction.address, transaction.code
@@ -195,8 +214,10 @@ class Objects:
             members += [("sent", digits_of(transaction.data))]
         members += [("reply" if is_call else "bytes", digits_of(transaction.reply)),
                     ("pec", flag(transaction.pec))]
-        if not is_call:
-            members += self.meaning(address, code, transaction.reply, False)
+        if is_call:
+            members += self.says(transaction)
+        else:
+            members += self.meaning(transaction, transaction.reply, False)
         self.put(address, members)
 
     def refused(self, place, count, refused):

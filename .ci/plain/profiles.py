@@ -23,10 +23,17 @@ class Entry(NamedTuple):
     coefficients: Optional[tuple] = None  # a format, direct or udirect
     exponent: Optional[int] = None
     initial: Union[bytes, list, None] = None  # a list has an item for each page
+    unit: Optional[str] = None
+    bits: Optional[dict] = None  # the names that the profile gives bits, by their numbers
+    phased: bool = False
 
     def form_held(self):
         """The form of the register, or None where there is none (docs/devices.md)."""
         return self.read or (self.write if self.write != "zero" else None)
+
+    def is_number(self):
+        """Whether its data are numbers."""
+        return self.kind not in ("raw", "status", "text")
 
     def is_voltage(self):
         """Whether VOUT_MODE says what its numbers are."""
@@ -46,6 +53,19 @@ class Entry(NamedTuple):
             return linear("linear11 fixed", self.exponent)
         return ("linear11",)
 
+    def has_standard_name(self):
+        """Whether it has the name that the standard gives its code."""
+        return self.name == STANDARD_NAMES.get(self.code)
+
+    def is_plain(self):
+        """Whether it is the standard's, and the profile says nothing of its data."""
+        return self.kind == "raw" and self.has_standard_name()
+
+    def has_text(self, form):
+        """Whether its data in a form are characters."""
+        return self.kind == "text" or (
+            self.code in TEXTS and form == "block" and self.is_plain())
+
     def initial_on(self, page):
         """The bytes that the profile gives the register of a page, or None."""
         return self.initial[page] if isinstance(self.initial, list) else self.initial
@@ -59,6 +79,7 @@ class Device(NamedTuple):
     vout_direct: Optional[tuple] = None  # a format, direct or udirect
     name: Optional[str] = None
     vid: Union[str, list, dict, None] = None  # a table, one for each page, or some by types
+    phases: Optional[int] = None
 
     @property
     def pages(self):
@@ -67,6 +88,17 @@ class Device(NamedTuple):
 
     def entry(self, code):
         return self.entries.get(code)
+
+    def has_phases(self, entry):
+        """Whether a command has a value for each phase."""
+        of_standard = entry.code in PHASED and entry.has_standard_name()
+        return self.phases is not None and (entry.phased or of_standard)
+
+    def bit_name(self, code, bit):
+        """The name of a bit of a status register: the profile's, or else the standard's; None without
+        one."""
+        entry = self.entry(code)
+        return (entry and entry.bits or {}).get(bit) or bit_name(code, bit)
 
 
 class Profile(NamedTuple):
@@ -90,12 +122,17 @@ def rows_under(heading):
     return [row for row in rows if re.fullmatch("[0-9a-f]{2}", row[0]) and row[1].isidentifier()]
 
 
-def standard_entry(code, name, write, read, call, kind, paged, _unit):
+def standard_entry(code, name, write, read, call, kind, paged, unit):
     forms = [None if form == "–" else form for form in (write, read, call)]
-    return Entry(int(code, 16), name, *forms, kind, paged == "yes")
+    return Entry(int(code, 16), name, *forms, kind, paged == "yes",
+                 unit=None if unit == "–" else unit)
 
 
 STANDARD = [standard_entry(*row) for row in rows_under("The standard commands")]
+STANDARD_NAMES = {entry.code: entry.name for entry in STANDARD}
+# Of the standard's commands: whose blocks are characters, and which have a value for each phase.
+TEXTS = (0x99, 0x9A, 0x9B, 0x9C, 0x9D, 0x9E, 0xAD, 0xAE)
+PHASED = (0x38, 0x39, 0x8C)
 BITS = {int(row[0], 16): row[2:] for row in rows_under("The bits of the status commands")}
 HIGH_BITS = "VOUT IOUT_POUT INPUT MFR_SPECIFIC POWER_GOOD_N FANS OTHER UNKNOWN".split()
 
@@ -111,7 +148,9 @@ def bit_name(code, bit):
 # Profiles as data
 
 def standard(name, **changes):
-    """A standard command, changed."""
+    """A standard command, changed. With a kind of its own it has no unit."""
+    if "kind" in changes:
+        changes = {"unit": None, **changes}
     return next(entry for entry in STANDARD if entry.name == name)._replace(**changes)
 
 
@@ -148,13 +187,13 @@ BOARD = Profile((
         0x40, "optional",
         standard("TON_DELAY", exponent=-2),
         standard("TON_RISE", exponent=-2),
-        Entry(0xD7, "MFR_IOUT_PEAK", read="two", kind="linear11", paged=True),
+        Entry(0xD7, "MFR_IOUT_PEAK", read="two", kind="linear11", paged=True, unit="A"),
         modes=[0x13, 0x13],
     ),
     device(
         0x10, "off",
         standard("CLEAR_FAULTS"),
-        standard("READ_VIN", kind="direct", coefficients=direct(6720, 0, -1)),
+        standard("READ_VIN", kind="direct", coefficients=direct(6720, 0, -1), unit="V"),
         base=(),
     ),
 ))
@@ -182,14 +221,14 @@ LTC3880 = Profile((
         standard("USER_DATA_02", write="two", read="two"),
         standard("USER_DATA_03", write="two", read="two", paged=True),
         standard("USER_DATA_04", write="two", read="two"),
-        Entry(0xDD, "MFR_VOUT_PEAK", read="two", kind="vout", paged=True),
-        Entry(0xD7, "MFR_IOUT_PEAK", read="two", kind="linear11", paged=True),
-        Entry(0xF6, "MFR_IOUT_CAL_GAIN_TC", write="two", read="two", kind="direct", paged=True, coefficients=("direct", 1, 0, 0)),
-        Entry(0xDE, "MFR_VIN_PEAK", read="two", kind="linear11"),
-        Entry(0xDF, "MFR_TEMPERATURE_1_PEAK", read="two", kind="linear11", paged=True),
-        Entry(0xF4, "MFR_TEMPERATURE_2_PEAK", read="two", kind="linear11"),
+        Entry(0xDD, "MFR_VOUT_PEAK", read="two", kind="vout", paged=True, unit="V"),
+        Entry(0xD7, "MFR_IOUT_PEAK", read="two", kind="linear11", paged=True, unit="A"),
+        Entry(0xF6, "MFR_IOUT_CAL_GAIN_TC", write="two", read="two", kind="direct", paged=True, coefficients=("direct", 1, 0, 0), unit="ppm/degC"),
+        Entry(0xDE, "MFR_VIN_PEAK", read="two", kind="linear11", unit="V"),
+        Entry(0xDF, "MFR_TEMPERATURE_1_PEAK", read="two", kind="linear11", paged=True, unit="degC"),
+        Entry(0xF4, "MFR_TEMPERATURE_2_PEAK", read="two", kind="linear11", unit="degC"),
         Entry(0xF8, "MFR_TEMP_1_GAIN", write="two", read="two", kind="direct", paged=True, coefficients=("direct", 16384, 0, 0)),
-        Entry(0xF9, "MFR_TEMP_1_OFFSET", write="two", read="two", kind="linear11", paged=True),
+        Entry(0xF9, "MFR_TEMP_1_OFFSET", write="two", read="two", kind="linear11", paged=True, unit="degC"),
         Entry(0xE7, "MFR_SPECIAL_ID", read="two"),
         Entry(0xE5, "MFR_PADS_LTC3880", read="two"),
         Entry(0xEF, "MFR_COMMON", read="one"),
@@ -198,8 +237,8 @@ LTC3880 = Profile((
         Entry(0xD2, "MFR_GPIO_PROPAGATE_LTC3880", write="two", read="two", paged=True),
         Entry(0xD4, "MFR_PWM_MODE_LTC3880", write="one", read="one", paged=True),
         Entry(0xD5, "MFR_GPIO_RESPONSE", write="one", read="one", paged=True),
-        Entry(0xDB, "MFR_RETRY_DELAY", write="two", read="two", kind="linear11", paged=True),
-        Entry(0xDC, "MFR_RESTART_DELAY", write="two", read="two", kind="linear11", paged=True),
+        Entry(0xDB, "MFR_RETRY_DELAY", write="two", read="two", kind="linear11", paged=True, unit="ms"),
+        Entry(0xDC, "MFR_RESTART_DELAY", write="two", read="two", kind="linear11", paged=True, unit="ms"),
         Entry(0xE6, "MFR_ADDRESS", write="one", read="one"),
         Entry(0xF5, "MFR_PWM_CONFIG_LTC3880", write="one", read="one"),
         Entry(0xFA, "MFR_RAIL_ADDRESS", write="one", read="one", paged=True),
@@ -458,6 +497,120 @@ VOLTS = Profile((
     device(0x24, "off", vid={}),
 ))
 
+# Units, names of bits, texts and phases: of the standard's commands, changed ones and new ones.
+NAMED_TEXT = b"""
+[[device]]
+address = 0x20
+pec = "optional"
+pages = 2
+phases = 3
+command = [
+    { name = "READ_VIN", kind = "half", unit = "mV" },
+    { name = "READ_IIN", phased = true },
+    { name = "READ_PIN", kind = "linear11" },
+    { name = "VIN_ON", exponent = -3 },
+    { name = "VOUT_COMMAND", unit = "V/512 \\" \\\\ of 12", phased = true },
+    { name = "IOUT_CAL_GAIN", kind = "direct", m = 1, b = 0, r = 0, paged = false },
+    { code = 0x39, name = "OFFSET", read = "two", kind = "linear11" },
+    { name = "STATUS_WORD", phased = true, bits = { 15 = "PLUS_5_V", 3 = "LOW_WARN", 2 = "NAME_OF_A_BIT_WITH_32_CHARACTERS" } },
+    { name = "STATUS_VOUT", bits = { 7 = "OVER", 0 = "BUSY" } },
+    { name = "STATUS_MFR_SPECIFIC", bits = { 0 = "FUSE", 7 = "WATCHDOG_WARN" } },
+    { name = "STATUS_CML", bits = {} },
+    { code = 0xd0, name = "PHASES", write = "two", read = "two", kind = "status", phased = true, bits = { 15 = "A", 8 = "B", 0 = "C" } },
+    { code = 0xd1, write = "block", read = "block", kind = "text", paged = true, phased = true },
+    { code = 0xd2, write = "zero", read = "two", kind = "text" },
+    { code = 0xd3, write = "zero", read = "one", kind = "status", phased = true },
+    { name = "MFR_MODEL", write = "none", read = "four" },
+    { code = 0x9b, name = "REVISION", write = "block", read = "block" },
+    { code = 0x9c, name = "MFR_LOCATION", write = "block", read = "block", phased = true },
+    { code = 0x01, name = "OPERATION", write = "one", read = "one", phased = true },
+    { code = 0x02, write = "one", read = "one" },
+    { name = "CAPABILITY", kind = "text" },
+    { name = "PMBUS_REVISION", write = "one" },
+    { name = "WRITE_PROTECT", kind = "status" },
+    { name = "PAGE_PLUS_WRITE", write = "two" },
+    { name = "SMBALERT_MASK", phased = true },
+    { name = "READ_EIN", read = "eight" },
+]
+
+[[device]]
+address = 0x21
+pec = "off"
+phases = 255
+standard = false
+command = [{ name = "PHASE" }, { name = "READ_IOUT", unit = "A" }, { name = "STATUS_IOUT", phased = true }]
+
+[[device]]
+address = 0x22
+pec = "on"
+command = [{ name = "READ_VIN", phased = true }, { name = "STATUS_FANS_3_4", bits = { 7 = "FAN_3_FAULT" } }]
+
+[[device]]
+address = 0x23
+pec = "off"
+phases = 1
+command = [{ code = 0x04, name = "PHASE", write = "two", read = "two" }, { code = 0x8c, name = "READ_IOUT", read = "block" }]
+
+[[device]]
+address = 0x24
+pec = "off"
+phases = 2
+command = [{ code = 0x04, name = "STAGE", write = "block", read = "block", kind = "text", phased = true }]
+"""
+NAMED = Profile((
+    device(
+        0x20, "optional",
+        standard("READ_VIN", kind="half", unit="mV"),
+        standard("READ_IIN", phased=True),
+        standard("READ_PIN", kind="linear11"),
+        standard("VIN_ON", exponent=-3),
+        standard("VOUT_COMMAND", unit='V/512 " \\ of 12', phased=True),
+        standard("IOUT_CAL_GAIN", kind="direct", coefficients=direct(1, 0, 0), paged=False),
+        Entry(0x39, "OFFSET", read="two", kind="linear11"),
+        standard("STATUS_WORD", phased=True, bits={
+            2: "NAME_OF_A_BIT_WITH_32_CHARACTERS", 3: "LOW_WARN", 15: "PLUS_5_V"}),
+        standard("STATUS_VOUT", bits={0: "BUSY", 7: "OVER"}),
+        standard("STATUS_MFR_SPECIFIC", bits={0: "FUSE", 7: "WATCHDOG_WARN"}),
+        standard("STATUS_CML", bits={}),
+        Entry(0xD0, "PHASES", "two", "two", kind="status", phased=True,
+              bits={0: "C", 8: "B", 15: "A"}),
+        Entry(0xD1, "CMD_d1", "block", "block", kind="text", paged=True, phased=True),
+        Entry(0xD2, "CMD_d2", "zero", "two", kind="text"),
+        Entry(0xD3, "CMD_d3", "zero", "one", kind="status", phased=True),
+        standard("MFR_MODEL", write=None, read="four"),
+        Entry(0x9B, "REVISION", "block", "block"),
+        Entry(0x9C, "MFR_LOCATION", "block", "block", phased=True),
+        Entry(0x01, "OPERATION", "one", "one", phased=True),
+        Entry(0x02, "CMD_02", "one", "one"),
+        standard("CAPABILITY", kind="text"),
+        standard("PMBUS_REVISION", write="one"),
+        standard("WRITE_PROTECT", kind="status"),
+        standard("PAGE_PLUS_WRITE", write="two"),
+        standard("SMBALERT_MASK", phased=True),
+        standard("READ_EIN", read="eight"),
+        modes=[0x17, 0x17], phases=3,
+    ),
+    device(
+        0x21, "off",
+        standard("PHASE"),
+        standard("READ_IOUT"),
+        standard("STATUS_IOUT", phased=True),
+        base=(), phases=255,
+    ),
+    device(
+        0x22, "on",
+        standard("READ_VIN", phased=True),
+        standard("STATUS_FANS_3_4", bits={7: "FAN_3_FAULT"}),
+    ),
+    device(
+        0x23, "off",
+        Entry(0x04, "PHASE", "two", "two"),
+        Entry(0x8C, "READ_IOUT", read="block"),
+        phases=1,
+    ),
+    device(0x24, "off", Entry(0x04, "STAGE", "block", "block", kind="text", phased=True), phases=2),
+))
+
 # A device on each of 17 addresses, so that a group can be too long.
 MANY_TEXT = b"".join(
     b"[[device]]\naddress = %d\npec = 'off'\n" % address for address in range(0x10, 0x21)
@@ -467,7 +620,7 @@ MANY = Profile(tuple(device(address, "off") for address in range(0x10, 0x21)))
 KNOWN = {
     SAMPLE_TEXT: SAMPLE, BOARD_TEXT: BOARD, LTC3880_TEXT: LTC3880, PFE1100_TEXT: PFE1100,
     BENCH_TEXT: BENCH, RAILS_TEXT: RAILS, ODD_TEXT: ODD, UNLIKE_TEXT: UNLIKE, VOLTS_TEXT: VOLTS,
-    MANY_TEXT: MANY,
+    NAMED_TEXT: NAMED, MANY_TEXT: MANY,
     b"device = []\n": Profile(()), b"ignore = []\ndevice = []\n": Profile((), ignored=[]),
 }
 
@@ -528,6 +681,18 @@ FAULTS = {
     ONE + b"vout_direct = { m = 1, b = 0, r = 0, unsigned = 1 }\n": "WrongType in device 0",
     ONE + b"vout_direct = { m = 0, b = 0, r = 0, unsigned = 1 }\n": "BadCoefficients in device 0",
     ONE + b"unsigned = true\n": "UnknownKey in device 0",
+    ONE + b"phases = 0\n": "BadValue in device 0",
+    ONE + b"phases = 256\nvid = 'vr14'\n": "BadValue in device 0",
+    ONE + b"phases = '1'\nvid = 1\n": "WrongType in device 0",
+    COMMAND + b"name = 'MFR_ID'\nunit = 'V'\n": "UnknownKey in device 0 command 0",
+    COMMAND + b"name = 'READ_VIN'\nunit = ''\nbits = 1\n": "BadValue in device 0 command 0",
+    COMMAND + b"name = 'READ_VIN'\nbits = {}\n": "UnknownKey in device 0 command 0",
+    COMMAND + b"name = 'STATUS_CML'\nbits = { 8 = 1 }\n": "BadValue in device 0 command 0",
+    COMMAND + b"name = 'STATUS_CML'\nbits = { 7 = 1, 6 = 'a' }\n": "BadName in device 0 command 0",
+    COMMAND + b"name = 'STATUS_CML'\nbits = { 7 = 'A', 0 = 'A' }\nphased = 1\n":
+        "BadName in device 0 command 0",
+    COMMAND + b"name = 'READ_IOUT'\nphased = 1\n": "WrongType in device 0 command 0",
+    COMMAND + b"name = 'PAGE'\nkind = 'text'\n": "BadForm in device 0 command 0",
     COMMAND + b"name = 'READ_VIN'\nunsigned = false\n": "UnknownKey in device 0 command 0",
     COMMAND + b"name = 'READ_VIN'\nunsigned = 1\n": "WrongType in device 0 command 0",
     COMMAND + b"name = 'READ_VIN'\nkind = 'slinear16'\n": "MissingKey in device 0 command 0",

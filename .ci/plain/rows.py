@@ -1,7 +1,8 @@
 """The rows that `.ci/rows` starts from: words and an input each, as the pages, the examples and
 the standards' tables have them."""
 
-from . import profiles, stats
+from . import meaning, packets, profiles, stats
+from .packets import Call, Part, Read, Write
 from .profiles import example
 
 # Captures under the sample profile.
@@ -339,6 +340,31 @@ write 20 e0 01 fc; get 20 e0; write 20 e1 00 01; get 20 e1; write 20 20 40; writ
 get 21 21; write 21 20 20; set 21 21 1; write 22 20 e0; get 22 21; get 23 8b; write 23 20 40; set 23 21 1; get 23 21
 """
 
+# The same after a profile with units, names of bits, texts and phases of its own.
+NAMED_CAPTURES = """
+S 40 A 8c A S 41 A 00 A d3 N P S 40 A 04 A 01 A P S 40 A 8c A S 41 A 00 A d3 N P S 40 A 04 A ff A P S 40 A 8c A S 41 A 00 A d3 N P
+S 40 A 04 A S 41 A 02 N P S 40 A 00 A 01 A P S 40 A 8c A S 41 A 00 A d3 N P S 40 A 04 A 03 A P S 40 A 8c A S 41 A 00 A d3 N P
+S 40 A 04 A 00 A P S 40 A 79 A S 41 A ff A ff N P S 40 A 04 A 01 A P S 40 A 79 A S 41 A 08 A 80 N P S 40 A 04 A 00 A P S 40 A 79 A S 41 A 0c A 00 N P
+S 40 A 7a A S 41 A 81 N P S 40 A 80 A S 41 A 83 N P S 40 A 7e A S 41 A 06 N P S 40 A 7a A ff A P
+S 40 A 1b A 7a A 81 A P S 40 A 1b A 01 A 79 A S 41 A 01 A 8c N P S 40 A 1b A d0 A ff A P S 40 A 1b A 01 A 88 A S 41 A 01 A 03 N P
+S 40 A d0 A 01 A 81 A P S 40 A 04 A 01 A P S 40 A d0 A S 41 A 03 A 01 N P S 40 A 04 A 07 A P S 40 A d0 A S 41 A 00 A 01 N P
+S 40 A d1 A 02 A 41 A 22 A P S 40 A d1 A 00 A P S 40 A d1 A S 41 A 02 A 20 A 7e N P S 40 A d1 A S 41 A 01 A 1f N P S 40 A d1 A S 41 A 02 A 41 A 7f N P S 40 A d1 A S 41 A 00 N P
+S 40 A d2 A P S 40 A d2 A S 41 A 41 A 5c N P S 40 A d2 A S 41 A 41 A 00 N P S 40 A d3 A P S 40 A d3 A S 41 A 05 N P
+S 40 A 9a A S 41 A 41 A 42 A 43 A 44 N P S 40 A 9b A 01 A 41 A P S 40 A 9c A 01 A 41 A P S 40 A 9c A 00 A P S 40 A 99 A 00 A P S 40 A ad A S 41 A 01 A 80 N P
+S 40 A 01 A 80 A P S 40 A 02 A 16 A P S 40 A 19 A S 41 A 41 N P S 40 A 98 A 33 A P S 40 A 98 A S 41 A 33 N P S 40 A 10 A S 41 A 40 N P
+S 40 A 05 A 00 A 21 A P S 40 A 86 A S 41 A 01 A 02 A 03 A 04 A 05 A 06 A 07 A 08 N P S 40 A 87 A S 41 A 06 A 34 A 12 A 05 A 01 A 02 A 03 N P
+S 40 A 21 A 00 A 18 A P S 40 A 97 A S 41 A 00 A d3 N P S 40 A 88 A S 41 A 00 A 4a N P S 40 A 35 A 60 A e8 A P S 40 A 8b A S 41 A 00 A 18 N P
+S 40 A 38 A 01 A 00 A P S 40 A 39 A S 41 A 00 A d3 N P S 40 A 89 A S 41 A 00 A d3 N P S 40 A 88 A S 41 A 00 A 7c N P
+S 40 A 20 A 97 A P S 40 A 21 A 00 A 02 A P S 40 A 25 A 00 A 02 A P S 40 A 04 A 02 A S 42 A 04 A 01 A P S 42 A 8c A S 43 A 00 A d3 N P
+S 40 A 04 A 01 A S 40 A 8c A S 41 N P S 40 A 21 A 00 N P S 40 A 8c A S 41 A 00 A d3 A 00 N P S 40 A 04 A 02 A 00 N P S 40 A 8c A S 41 A
+S 42 A 04 A fe A P S 42 A 8c A S 43 A 00 A d3 N P S 42 A 04 A ff A P S 42 A 8c A S 43 A 01 A d3 N P S 42 A 7b A S 43 A ff N P S 42 A 00 A 01 A P
+S 46 A 04 A 00 A 00 A P S 46 A 8c A S 47 A 01 A 41 N P S 46 A 04 A S 47 A 00 A 01 N P S 46 A 38 A 00 A d3 A P
+S 48 A 04 A 01 A 01 A P S 48 A 04 A S 49 A 01 A ff N P S 48 A 04 A 02 A 41 A 42 A P S 48 A 8c A S 49 A 00 A d3 N P S 48 A 04 A 00 A P
+S 44 A 88 A S 45 A 00 A d3 A b7 N P S 44 A 82 A S 45 A 81 A 8a N P
+S 40 A 1a A 01 A 8b A S 41 A 01 A ac N P S 40 A 30 A 02 A 88 A 01 A S 41 A 05 A 01 A 00 A fe A ff A ff N P S 40 A 06 A 02 A ff A 99 A S 41 A 00 N P
+S 40 A 1a A 00 A S 41 A 01 A ac N P S 40 A 06 A 02 A 01 A 99 A S 41 A 02 A 01 A 41 N P S 40 A 30 A 02 A 88 A 02 A S 41 A 04 A 01 A 00 A fe A ff N P
+"""
+
 
 def lines_of(text):
     return [line.encode() for line in text.split("\n") if line]
@@ -355,7 +381,7 @@ def rows():
     found.append((["build", "--sample"], b"write 58 03\r\nwrite 58 03\r\r\n\r\nwrite # 5\r"))
     for requests in lines_of(REQUESTS):
         found.append((["run", "--sample"], requests.replace(b"; ", b"\n") + b"\n"))
-    found += conversions() + long_rows() + rows_behind_profiles()
+    found += conversions() + field_rows() + long_rows() + rows_behind_profiles()
     return found
 
 
@@ -398,6 +424,22 @@ def conversions():
     found.append((["encode", "vout:17"], b"0" * 255 + b"1\n" + b"0" * 256 + b"\r\n1\n"))
     found.append((["decode", "vout:17"], b"0" * 257))
     found.append((["encode", "-1"], b"1"))
+    return found
+
+
+def field_rows():
+    """The examples of docs/meaning.md, each in the ways in which its data may go."""
+    found = []
+    for name, given, _ in meaning.examples():
+        code = profiles.standard(name).code
+        ways = [Write((Part(0x58, code, tuple(given[0]), False),)),
+                Read(0x58, code, tuple(given[0]), True)]
+        if len(given) == 2:
+            ways = [Call(0x58, code, tuple(given[0]), tuple(given[1]), False)]
+        for way in ways:
+            if packets.check(profiles.SAMPLE, way) is None:
+                text = packets.events_text(packets.events_of(profiles.SAMPLE, way)).encode()
+                found += [([task, "--sample"], text) for task in ("json", "log")]
     return found
 
 
@@ -480,6 +522,11 @@ def rows_behind_profiles():
         found += [([task], volts + capture) for task in ("show", "json", "log", "stats")]
         found += [([task, "--late"], volts + capture) for task in ("json", "log")]
         found += [(["log", "--digits", "0"], volts + capture), (["stats", "--json"], volts + capture)]
+    named = profiles.NAMED_TEXT + b"%%\n"
+    for capture in lines_of(NAMED_CAPTURES):
+        found += [([task], named + capture) for task in ("show", "json", "log", "stats")]
+        found += [(["stats", "--json"], named + capture), (["json", "--late"], named + capture)]
+        found.append((["stats", "--fail-on", "faults"], named + capture))
     for front, lists in (
         (unlike, UNLIKE_REQUESTS), (rails, RAILS_REQUESTS), (volts, VOLTS_REQUESTS),
     ):

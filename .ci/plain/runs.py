@@ -153,7 +153,7 @@ def set_value(chance, entry):
     if entry.is_voltage():
         name = "ulinear16" if entry.kind == "vout" else "slinear16"
         return quantity(chance, (name, chance.choice((-16, -13, -12, -9, -1, 15))))
-    if entry.kind in ("linear11", "raw", "status") or chance.random() < 0.1:
+    if entry.kind == "linear11" or not entry.is_number() or chance.random() < 0.1:
         return quantity(chance, numbers.format_of(chance.choice(FORMATS)))
     return quantity(chance, entry.number_format())
 
@@ -170,7 +170,7 @@ def request(chance, profile):
     device = chance.choice(profile.devices)
     entry = entry_of(chance, device)
     kind = chance.choice(("read", "get", "set", "call", "write", "write", "write", "write"))
-    is_number = entry.kind not in ("raw", "status")
+    is_number = entry.is_number()
     words = ["%02x" % device.address, "%02x" % entry.code]
     if kind == "set" and is_number and entry.write not in (None, "zero"):
         words.append(set_value(chance, entry))

@@ -3,10 +3,10 @@ for the whole, and what makes its status 1."""
 
 from typing import NamedTuple
 
-from . import log, numbers
-from .objects import Objects, digits_of, read_on, rounded, string
+from . import numbers
+from .objects import Objects, digits_of, escaped, read_on, rounded, string
 from .packets import Alert, Call, NoAlert, Refused, Write
-from .profiles import ALL_PAGES, bit_name
+from .profiles import ALL_PAGES
 
 COUNTS = ("writes", "reads", "calls", "alerts", "nacks", "refusals", "others")
 PLACES = ("address", "code", "byte", "read address")
@@ -17,12 +17,8 @@ WORDS = ("refusals", "bad-tokens", "nacks", "alerts", "faults", "none-read")
 NO_FAULTS = ("BUSY", "OFF", "POWER_GOOD_N")
 # Which values have a mean together: all linear ones and IEEE halves, and what is here.
 MEANS = {"direct": "direct", "udirect": "direct", "vid": "vid"}
-UNKNOWN_PAGE, NO_PAGES = ALL_PAGES + 1, ALL_PAGES + 2  # where these stand behind all pages
-
-
-def unit_of(entry):
-    """The unit of a command, as `log` has it; None where it has none."""
-    return log.unit(entry).strip() or None
+# Where these stand behind all pages, and phases behind all phases, whose numbers are the same.
+UNKNOWN_PAGE, NO_PAGES = ALL_PAGES + 1, ALL_PAGES + 2
 
 
 class Bit:
@@ -67,7 +63,7 @@ class Numbers:
 
 
 class Page(NamedTuple):
-    """What a page has: bits by code, and then by their numbers; numbers by code."""
+    """What a page has: bits by code and phase, and then by their numbers; numbers by code and phase."""
     bits: dict
     numbers: dict
 
@@ -87,6 +83,14 @@ class Counts:
 
     def page(self, number):
         return self.pages.setdefault(number, Page({}, {}))
+
+
+def place(has_some, selected, count):
+    """Where data stand among pages or phases: one that the device lacks is not known."""
+    if not has_some:
+        return NO_PAGES
+    is_one = selected is not None and (selected == ALL_PAGES or selected < count)
+    return selected if is_one else UNKNOWN_PAGE
 
 
 class Stats(Objects):
@@ -140,18 +144,18 @@ class Stats(Objects):
         self.told.observe(transaction)
 
     def page_of(self, device, entry):
-        """The page that a command's data belong to; one that the device lacks is not known."""
-        if not entry.paged:
-            return NO_PAGES
-        page = self.known.pages[device.address]
-        is_page = page is not None and (page == ALL_PAGES or page < device.pages)
-        return page if is_page else UNKNOWN_PAGE
+        """The page that a command's data belong to."""
+        return place(entry.paged, self.known.pages[device.address], device.pages)
+
+    def phase_of(self, device, entry):
+        """The phase that they belong to."""
+        return place(device.has_phases(entry), self.known.phases[device.address], device.phases)
 
     def number(self, address, code, data):
         """A number that was read or written."""
         device = self.profile.device(address)
         entry = device.entry(code)
-        if entry.kind in ("raw", "status") or not data:
+        if not entry.is_number() or not data:
             return
         try:
             way = self.way(device, entry)
@@ -161,7 +165,7 @@ class Stats(Objects):
         if way.is_ratio:
             return
         found = self.counts_of(address).page(self.page_of(device, entry)).numbers
-        several = found.setdefault(code, Numbers(unit_of(entry)))
+        several = found.setdefault((code, self.phase_of(device, entry)), Numbers(entry.unit))
         several.see(value, MEANS.get(way.form[0], "linear"), self.is_assumed(device, entry))
 
     def status(self, address, code, data, time):
@@ -170,11 +174,12 @@ class Stats(Objects):
         entry = device.entry(code)
         if entry.kind != "status":
             return
-        bits = self.counts_of(address).page(self.page_of(device, entry)).bits.setdefault(code, {})
+        found = self.counts_of(address).page(self.page_of(device, entry)).bits
+        bits = found.setdefault((code, self.phase_of(device, entry)), {})
         for i in range(8 * len(data)):
             is_set = data[i // 8] >> i % 8 & 1 == 1
             if is_set and i not in bits:
-                bits[i] = Bit(bit_name(code, i) or "bit%d" % i)
+                bits[i] = Bit(device.bit_name(code, i) or "bit%d" % i)
             if i in bits:
                 bits[i].see(is_set, time)
 
@@ -275,38 +280,41 @@ def device_object(found, address, counts):
 
 def page_object(found, address, number, page):
     """What a page has, or None where that is nothing."""
-    names = {ALL_PAGES: string("all"), UNKNOWN_PAGE: "null", NO_PAGES: None}
     bits = [bit_object(found, address, *one) for one in bits_of(page)]
     several = [numbers_object(found, address, *one) for one in sorted(page.numbers.items())]
     if not bits and not several:
         return None
-    return item([("page", names.get(number, str(number))), ("bits", listed(bits)),
-                 ("numbers", listed(several))])
+    return item([("page", place_text(number)), ("bits", listed(bits)), ("numbers", listed(several))])
+
+
+def place_text(number):
+    """A page or a phase, or None where a command has none."""
+    return {ALL_PAGES: string("all"), UNKNOWN_PAGE: "null", NO_PAGES: None}.get(number, str(number))
 
 
 def bits_of(page):
-    """The bits that were read set, with their codes: by code, the highest first."""
-    return [(code, page.bits[code][i]) for code in sorted(page.bits)
-            for i in sorted(page.bits[code], reverse=True)]
+    """The bits that were read set, with their codes and phases: by these, the highest first."""
+    return [(place, page.bits[place][i]) for place in sorted(page.bits)
+            for i in sorted(page.bits[place], reverse=True)]
 
 
-def command_of(found, address, code):
+def command_of(found, address, code, phase):
     name = found.profile.device(address).entry(code).name
-    return [("code", digits_of([code])), ("command", string(name))]
+    return [("code", digits_of([code])), ("command", string(name)), ("phase", place_text(phase))]
 
 
-def bit_object(found, address, code, bit):
-    return item(command_of(found, address, code)
+def bit_object(found, address, place, bit):
+    return item(command_of(found, address, *place)
                 + [("bit", string(bit.name)), ("count", str(bit.count)), ("first", bit.first),
                    ("last", bit.last), ("gone", bit.gone)])
 
 
-def numbers_object(found, address, code, several):
+def numbers_object(found, address, place, several):
     keys = ("least", "mean", "greatest", "last")
-    return item(command_of(found, address, code)
+    return item(command_of(found, address, *place)
                 + [("count", str(len(several.values))), ("assumed", positive(several.assumed))]
                 + list(zip(keys, several.told(found.choice.digits)))
-                + [("unit", several.unit and string(several.unit))])
+                + [("unit", several.unit and escaped(several.unit.encode()))])
 
 
 # As a table
@@ -355,25 +363,32 @@ def device_table(found, address, counts, command, time):
     device = found.profile.device(address)
     head = "%02x" % address + ("  " + device.name if device and device.name else "")
     entry_name = lambda code: device.entry(code).name
-    pages = [(page_sign(number), counts.pages[number]) for number in sorted(counts.pages)]
+    pages = [(place_sign(number), counts.pages[number]) for number in sorted(counts.pages)]
     text = head + "\n" + "  " + "  ".join(count_words(counts)) + "\n"
-    times = [time, time, time]
-    rows = [[sign, entry_name(code), bit.name, str(bit.count), *map(plain, (bit.first, bit.last, bit.gone))]
-            for sign, page in pages for code, bit in bits_of(page)]
-    text += under(["page", "command", "bit", "count", "first", "last", "gone"],
-                  [4, command, -BIT_WIDTH, COUNT_WIDTH, *times], rows)
-    rows = [[sign, entry_name(code), str(len(several.values)), positive(several.assumed) or "",
+    rows = [[sign, place_sign(phase), entry_name(code), bit.name, str(bit.count),
+             *map(plain, (bit.first, bit.last, bit.gone))]
+            for sign, page in pages for (code, phase), bit in bits_of(page)]
+    text += under(found, ["page", "phase", "command", "bit", "count", "first", "last", "gone"],
+                  [4, 5, command, -BIT_WIDTH, COUNT_WIDTH, time, time, time], rows)
+    rows = [[sign, place_sign(phase), entry_name(code), str(len(several.values)),
+             positive(several.assumed) or "",
              *[one or "" for one in several.told(found.choice.digits)], several.unit or ""]
-            for sign, page in pages for code, several in sorted(page.numbers.items())]
-    text += under(["page", "command", "count", "assumed", "least", "mean", "greatest", "last", "unit"],
-                  [4, command, COUNT_WIDTH, ASSUMED_WIDTH, *[NUMBER_WIDTH] * 4, -4], rows)
+            for sign, page in pages for (code, phase), several in sorted(page.numbers.items())]
+    text += under(found, ["page", "phase", "command", "count", "assumed", "least", "mean", "greatest",
+                          "last", "unit"],
+                  [4, 5, command, COUNT_WIDTH, ASSUMED_WIDTH, *[NUMBER_WIDTH] * 4, -4], rows)
     return text + "\n"
 
 
-def page_sign(number):
+def place_sign(number):
+    """A page or a phase."""
     return {ALL_PAGES: "*", UNKNOWN_PAGE: "?", NO_PAGES: ""}.get(number, str(number))
 
 
-def under(heading, widths, rows):
-    """Rows under their heading, or nothing where there is none."""
-    return "".join(line(list(zip(row, widths))) for row in [heading] + rows) if rows else ""
+def under(found, heading, widths, rows):
+    """Rows under their heading, or nothing where there is none. The second column, of phases, is there
+    only where a device has some."""
+    has_phases = any(device.phases is not None for device in found.profile.devices)
+    columns = [i for i in range(len(heading)) if i != 1 or has_phases]
+    return "".join(line([(row[i], widths[i]) for i in columns])
+                   for row in [heading] + rows) if rows else ""

@@ -16,12 +16,12 @@ WORDS = {
 }
 ONE_EXPONENT = ("ulinear16", "slinear16")  # kinds that need an exponent
 KINDS = ("raw", "linear11", "vout", "vout_signed", "direct", "status", "half", *ONE_EXPONENT,
-         *("vid:" + table for table in TABLES))
+         *("vid:" + table for table in TABLES), "text")
 TYPES = [str(number) for number in range(32)]  # of VID tables, as keys
 DEVICE_KEYS = ("address", "pec", "pages", "vout_mode", "standard", "vout_direct", "command", "name",
-               "vid")
+               "vid", "phases")
 COMMAND_KEYS = ("code", "name", *WORDS, "kind", "m", "b", "r", "exponent", "paged", "initial",
-                "unsigned")
+                "unsigned", "unit", "bits", "phased")
 
 
 def need(holds, name):
@@ -99,7 +99,9 @@ def device_of(table, before, ignored):
     name = value_of(table, "name", str)
     need(name is None or re.fullmatch("[ -~]{1,32}", name), "BadName")
     vid = vid_of(table["vid"], pages) if "vid" in table else None
-    return Device(address, pec, entries, modes, vout_direct, name, vid)
+    phases = value_of(table, "phases", int)
+    need(phases is None or 1 <= phases <= 255, "BadValue")
+    return Device(address, pec, entries, modes, vout_direct, name, vid, phases)
 
 
 def modes_of(value, pages):
@@ -207,7 +209,30 @@ def command_of(table):
     need(is_unsigned is None or kind == "direct", "UnknownKey")
     if is_unsigned:
         entry = entry._replace(coefficients=unsigned(entry.coefficients))
-    return entry._replace(exponent=exponent, paged=paged, initial=initial)
+    entry = entry._replace(exponent=exponent, paged=paged, initial=initial)
+    unit = value_of(table, "unit", str)
+    need(unit is None or entry.is_number(), "UnknownKey")
+    need(unit is None or re.fullmatch("[ -~]{1,16}", unit), "BadValue")
+    if unit is None and "code" not in table and "kind" not in table:
+        unit = entry.unit
+    bits = bits_of(entry, table) if "bits" in table else None
+    phased = value_of(table, "phased", bool, False)
+    return entry._replace(unit=unit, bits=bits, phased=phased)
+
+
+def bits_of(entry, table):
+    """The names that a profile gives bits, from the lowest up."""
+    given = value_of(table, "bits", dict)
+    need(entry.kind == "status", "UnknownKey")
+    bits = TYPES[: 8 if (entry.read or entry.write) == "one" else 16]
+    need(set(given) <= set(bits), "BadValue")
+    found = {}
+    for bit in bits:
+        if bit in given:
+            name = value_of(given, bit, str)
+            need(re.fullmatch("[A-Z0-9_]{1,32}", name) and name not in found.values(), "BadName")
+            found[int(bit)] = name
+    return found
 
 
 def goes_together(entry):
@@ -229,7 +254,7 @@ def goes_together(entry):
     form = entry.read or entry.write
     if entry.kind == "status":
         return form in ("one", "two")
-    return entry.kind == "raw" or form == "two"
+    return not entry.is_number() or form == "two"
 
 
 def initial_of(entry, pages):

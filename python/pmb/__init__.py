@@ -762,14 +762,16 @@ def transactions(
 
     Each has a `kind`, and `pmb.objects` has a type for each kind. A `time` is a text, and is there
     where a comment tells it. A voltage whose VOUT_MODE the capture has not told has `"mode":
-    "assumed"`. An object with a `device`, such as "58", also has its `address` as a number, 0x58;
-    where no device answered an alert, `device` is `None`, and there is no `address`.
+    "assumed"`. A value has the `unit` of its command, where that has one; `says` is a dict of the
+    fields of the data, as docs/meaning.md has them. An object with a `device`, such as "58", also
+    has its `address` as a number, 0x58; where no device answered an alert, `device` is `None`, and
+    there is no `address`.
 
         >>> import pmb
         >>> profile = "[[device]]\\naddress = 0x58\\npec = 'optional'\\nname = 'VDD'"
         >>> it = next(pmb.transactions(profile, "# 0.5 s\\nS b0 A 21 A 00 A 18 A P"))
-        >>> it["time"], it["name"], it["command"], it["value"], it["mode"]
-        ('0.5', 'VDD', 'VOUT_COMMAND', '12', 'assumed')
+        >>> it["time"], it["name"], it["command"], it["value"], it["mode"], it["unit"]
+        ('0.5', 'VDD', 'VOUT_COMMAND', '12', 'assumed', 'V')
         >>> it["device"], it["address"] == 0x58
         ('58', True)
     """

@@ -20,7 +20,7 @@ seven bits whose two digits are `device`. An object whose `device` is `None`, or
 no `address`.
 """
 
-from typing import List, Literal, Optional, TypedDict, Union, final
+from typing import Dict, List, Literal, Optional, TypedDict, Union, final
 
 __all__ = [
     "Alert",
@@ -52,6 +52,8 @@ _EventName = Literal["Start", "Byte", "Ack", "Nack", "Stop"]
 _Raw = Literal[
     "unknown", "page", "relative", "vid", "coefficients", "nan", "code", "off"
 ]
+# The fields of a command's data, by their names: docs/meaning.md has those of each command.
+_Fields = Dict[str, Union[str, int, bool, List[str]]]
 
 # ---- what several kinds have: of a class with `total=False`, the keys that may be left out
 
@@ -77,6 +79,7 @@ class _Name(TypedDict, total=False):
 
 class _Page(_Name, total=False):
     page: Union[int, Literal["all"], None]
+    phase: Union[int, Literal["all"], None]
 
 
 class _Number(TypedDict, total=False):
@@ -84,7 +87,16 @@ class _Number(TypedDict, total=False):
     number: float
     ratio: str
     mode: Literal["assumed"]
+    unit: str
     raw: _Raw
+
+
+class _Says(TypedDict, total=False):
+    says: _Fields
+
+
+class _Text(_Says, total=False):
+    text: str
 
 
 class _Bits(TypedDict, total=False):
@@ -130,14 +142,14 @@ class _MayEnd(TypedDict, total=False):
 
 
 @final
-class Write(_Time, _Part, _Page, _Number, _Clears):
+class Write(_Time, _Part, _Page, _Number, _Clears, _Text):
     """A write, or a part of a group.
 
     >>> import pmb
     >>> profile = "[[device]]\\naddress = 0x58\\npec = 'optional'"
     >>> it = next(pmb.transactions(profile, "S b0 A 21 A 00 A 18 A P"))
-    >>> it["kind"], it["device"], it["address"], it["bytes"], it["value"]
-    ('write', '58', 88, '0018', '12')
+    >>> it["kind"], it["device"], it["address"], it["bytes"], it["value"], it["unit"]
+    ('write', '58', 88, '0018', '12', 'V')
     """
 
     kind: Literal["write"]
@@ -150,7 +162,7 @@ class Write(_Time, _Part, _Page, _Number, _Clears):
 
 
 @final
-class Read(_Time, _Page, _Number, _Bits):
+class Read(_Time, _Page, _Number, _Bits, _Text):
     """A read.
 
     >>> import pmb
@@ -158,6 +170,12 @@ class Read(_Time, _Page, _Number, _Bits):
     >>> it = next(pmb.transactions(profile, "S b0 A 7a A S b1 A 80 N P"))
     >>> it["kind"], it["command"], it["bytes"], it["bits"]
     ('read', 'STATUS_VOUT', '80', ['VOUT_OV_FAULT'])
+    >>> it = next(pmb.transactions(profile, "S b0 A 9a A S b1 A 02 A 41 A 31 N P"))
+    >>> it["command"], it["text"]
+    ('MFR_MODEL', 'A1')
+    >>> it = next(pmb.transactions(profile, "S b0 A 98 A S b1 A 33 N P"))
+    >>> it["command"], it["says"]
+    ('PMBUS_REVISION', {'part_i': '1.3', 'part_ii': '1.3'})
     """
 
     kind: Literal["read"]
@@ -170,7 +188,7 @@ class Read(_Time, _Page, _Number, _Bits):
 
 
 @final
-class Call(_Time, _Page):
+class Call(_Time, _Page, _Says):
     """A process call: bytes that were sent, and the reply to them.
 
     >>> import pmb
