@@ -1,5 +1,5 @@
 """Captures into SQLite: each packet is a row, with its time, the exact value as a text, the nearest
-number, whether its VOUT_MODE is assumed, and the whole object.
+number and its unit, whether its VOUT_MODE is assumed, and the whole object.
 
     pip install ./python && python3 examples/python/to_sqlite.py
     python3 examples/python/to_sqlite.py PROFILE CAPTURE DATABASE
@@ -16,7 +16,8 @@ import pmb
 
 SESSIONS = os.path.join(os.path.dirname(os.path.abspath(__file__)), os.pardir, "sessions")
 COLUMNS = (
-    "at", "line", "time", "kind", "device", "name", "command", "page", "value", "number", "mode"
+    "at", "line", "time", "kind", "device", "name", "command", "page", "phase", "value", "number",
+    "mode", "unit",
 )
 
 
@@ -29,7 +30,8 @@ def load(database: sqlite3.Connection, profile: bytes, capture: bytes) -> None:
     """Puts the packets and refusals of a capture into the table `packets`."""
     database.execute(
         "CREATE TABLE IF NOT EXISTS packets (at INTEGER, line INTEGER, time TEXT, kind TEXT, "
-        "device TEXT, name TEXT, command TEXT, page, value TEXT, number REAL, mode TEXT, object TEXT)"
+        "device TEXT, name TEXT, command TEXT, page, phase, value TEXT, number REAL, mode TEXT, "
+        "unit TEXT, object TEXT)"
     )
     rows = (
         [it.get(column) for column in COLUMNS] + [json.dumps(it)]
