@@ -119,7 +119,7 @@ static const input inputs[] = {
     {JSON, PACKET,
      "{\"at\":0,\"line\":1,\"column\":1,\"kind\":\"write\",\"device\":\"58\",\"code\":\"21\","
      "\"command\":\"VOUT_COMMAND\",\"page\":0,\"bytes\":\"0018\",\"pec\":true,\"value\":\"12\","
-     "\"number\":12,\"mode\":\"assumed\"}\n"
+     "\"number\":12,\"mode\":\"assumed\",\"unit\":\"V\"}\n"
      "{\"kind\":\"device\",\"device\":\"58\",\"writes\":1,\"reads\":0,\"calls\":0,\"refused\":0,"
      "\"refusals\":0}\n"
      "{\"kind\":\"end\",\"packets\":1,\"refusals\":0,\"bad_tokens\":0}\n",
