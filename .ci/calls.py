@@ -318,7 +318,7 @@ def compare_kinds_of_objects(program):
     lines += ["S c0 A 03 A S b0 A 03 A P", "S c0 A 03 A S b0 A 21 N P", "S b0 A 88 A S b1 N P"]
     lines += ["S b0 hm", "S b0 A 03 A 46 N P", "S b0 A 03 A 47 N P", "S b0 N P", "S b0 A 7a A 80 A P"]
     lines += ["S b0 A 99 A 01 A 41 A P", "S b0 A 99 A S b1 A 02 A 22 A 5c N P", "S b0 A 01 A 80 A P"]
-    lines += ["S b0 A 98 A S b1 A 33 N P", "S b0 A 20 A S b1 A 13 N P", "S b0 A 10 A 40 A P"]
+    lines += ["S b0 A 98 A S b1 A 33 N P", "S b0 A 20 A S b1 A 15 N P", "S b0 A 10 A 40 A P"]
     lines += ["S b0 A 1b A 01 A 7a A S b1 A 01 A 10 N P", "S b0 A 04 A ff A P"]
     lines += ["S b0 A 00 A ff A P", "S b0 A 8b A S b1 A 00 A 18 N P", "S b0 A 21 A 00 A 18 A P"]
     lines += ["S b0 A e0 A 01 A 02 A S b1 A 05 A 06 N P"]
