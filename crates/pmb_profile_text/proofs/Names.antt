@@ -6,10 +6,10 @@ use Rattle.std.specs.Prelude.{IfSome, codes}
 use Rattle.std.specs.List.{list_all}
 use Rattle.std.proofs.lemmas.Bool.{and_parts, leb-true}
 use Rattle.std.proofs.lemmas.List.{drop_more}
+use Rattle.pmb_command.specs.Entry.{EntryParts}
 use Rattle.pmb_command.specs.Names.{is_name, is_name_byte}
-use Rattle.pmb_command.specs.Units.{standard_unit}
 use Rattle.pmb_keys.specs.declared.command.NamedBit.{NamedBit as CodeBit}
-use Rattle.pmb_profile_text.specs.Table.{is_unit_of, note_line, unit_line}
+use Rattle.pmb_profile_text.specs.Table.{has_unit, note_line, unit_line}
 
 -- a name has 32 at most
 pub short_name : (text : List ℕ) → is_name text ≡ true → length text ≤ 32
@@ -28,7 +28,7 @@ pub next_bit : (bits : List CodeBit) (i : ℕ) (b : CodeBit) → i < length bits
     → drop i bits ≡ b ∷ drop (i + 1) bits
 next_bit bits i b within is = drop_more bits i b within ∙ ap (λ (x : CodeBit). x ∷ drop (i + 1) bits) (sym is)
 
--- a unit that isn't the standard's has a line
-pub shown_unit : (code : ℕ) (unit : List ℕ) → is_unit_of unit (standard_unit code) ≡ false
-    → unit_line code (Some unit) ≡ note_line (codes "unit " ++ unit)
-shown_unit code unit other = rw other refl
+-- a unit that a command with this code and kind has by the key alone has a line
+pub shown_unit : (e : EntryParts) (unit : List ℕ) → has_unit e unit ≡ false
+    → unit_line e (Some unit) ≡ note_line (codes "unit " ++ unit)
+shown_unit e unit other = rw other refl

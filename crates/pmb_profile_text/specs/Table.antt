@@ -4,13 +4,18 @@ use Rattle.std.specs.Prelude.{ℕ, ◌+◌, ◌-◌, ◌*◌, Bool, true, false,
 use Rattle.std.specs.Prelude.{◌∷◌, ◌++◌, bytes_eq, codes, decimal, length, nat_eq, replicate, slice_index}
 use Rattle.std.specs.List.{flat_map, list_all, list_any, range_with_len}
 use Rattle.std.specs.Option.{is_some}
+use Rattle.pmb_command.specs.declared.entry.Kind.{Kind}
+use Rattle.pmb_command.specs.declared.entry.Kind.TheVariants.{Raw, Number, Vout, VoutSigned, Status, Text}
 use Rattle.pmb_command.specs.declared.form.Form.{Form}
+use Rattle.pmb_command.specs.Entry.{EntryParts}
 use Rattle.pmb_command.specs.Fitting.{register_form}
 use Rattle.pmb_command.specs.Parts.{CommandParts, DeviceParts, NamedBit, VidParts, OfPages, OfTypes, all_same}
 use Rattle.pmb_command.specs.Units.{standard_unit}
 use Rattle.pmb_registers.specs.State.{first_bytes, first_mode}
 use Rattle.pmb_profile_text.specs.Words.{addresses_word, bytes_word, digits, form_word, kind_word, mode_words}
 use Rattle.pmb_profile_text.specs.Words.{page_word, paged_word, pec_word, type_word, vout_direct_word}
+use Rattle.pmb_value.specs.declared.number_format.NumberFormat.{NumberFormat}
+use Rattle.pmb_value.specs.declared.number_format.NumberFormat.TheVariants as formats
 use Rattle.pmb_vid.specs.Names.{same_table, table_name}
 use Rattle.pmb_vid.specs.declared.table.VidTable.{VidTable}
 
@@ -113,11 +118,31 @@ abbrev pub is_unit_of : List ℕ → Option (List ℕ) → Bool
 is_unit_of unit None = false
 is_unit_of unit (Some other) = bytes_eq unit other
 
--- the unit of numbers, where it is another than that of the standard command with the code
-abbrev pub unit_line : ℕ → Option (List ℕ) → List ℕ
-unit_line code None = []
-unit_line code (Some unit) =
-    if is_unit_of unit (standard_unit code) then [] else note_line (codes "unit " ++ unit)
+-- the formats in which a standard command keeps the standard's unit
+abbrev pub keeps_format : NumberFormat → Bool
+keeps_format formats.Linear11 = true
+keeps_format (formats.Linear11Fixed exponent) = true
+keeps_format (formats.Word format) = false
+keeps_format formats.Half = false
+keeps_format (formats.Vid table) = false
+
+-- the kinds with which it keeps it
+abbrev pub keeps_unit : Kind → Bool
+keeps_unit Raw = false
+keeps_unit (Number format) = keeps_format format
+keeps_unit Vout = true
+keeps_unit VoutSigned = true
+keeps_unit Status = false
+keeps_unit Text = false
+
+-- whether a command of this code and kind may have the unit without the key
+abbrev pub has_unit : EntryParts → List ℕ → Bool
+has_unit e unit = keeps_unit e.kind && is_unit_of unit (standard_unit e.code)
+
+-- the unit of numbers, unless a command of this code and kind may have it without the key
+abbrev pub unit_line : EntryParts → Option (List ℕ) → List ℕ
+unit_line e None = []
+unit_line e (Some unit) = if has_unit e unit then [] else note_line (codes "unit " ++ unit)
 
 -- a bit of a status register, and the name that the profile gives it
 abbrev pub bit_line : NamedBit → List ℕ
@@ -131,7 +156,7 @@ phased_line false = []
 -- the lines of what the profile says of the data of a command
 abbrev pub meaning_lines : CommandParts → List ℕ
 meaning_lines command =
-    unit_line command.entry.code command.unit
+    unit_line command.entry command.unit
     ++ (flat_map bit_line command.bits ++ phased_line command.phased)
 
 -- the rows of a command and these lines

@@ -9,12 +9,13 @@ ghost use Rattle.pmb_command.specs.Entry.{entry_parts};
 ghost use Rattle.pmb_command.specs.Names.{is_name};
 ghost use Rattle.pmb_command.specs.Parts.{CommandParts, command_with};
 ghost use Rattle.pmb_keys.specs.CommandView.{bit_parts};
-ghost use Rattle.pmb_profile_text.specs.Table.{bit_line, is_unit_of, meaning_lines, phased_line, unit_line};
+ghost use Rattle.pmb_profile_text.specs.Table.{bit_line, has_unit, is_unit_of, keeps_format, keeps_unit, meaning_lines, phased_line, unit_line};
 
 use crate::row::{Row, append, append_number, append_spaces};
-use pmb_command::{Entry, standard_unit};
+use pmb_command::{Entry, Kind, standard_unit};
 use pmb_keys::NamedBit;
 use pmb_table::DeviceProfile;
+use pmb_value::NumberFormat;
 
 /// The width of all columns before that of the kinds.
 const BEFORE_KINDS: usize = 62;
@@ -29,16 +30,45 @@ fn is_unit_of(unit: &str, standard: Option<&str>) -> bool
     }
 }
 
-/// Appends the line of the unit of a code, where it is another than the standard's: at most 84 bytes.
-fn append_unit(lines: &mut Row, code: u8, unit: Option<&str>)
+/// Whether a standard command keeps the standard's unit in this format.
+fn keeps_format(format: &NumberFormat) -> bool
+    ensures { result ≡ keeps_format format.now }
+{
+    match format {
+        NumberFormat::Linear11 | NumberFormat::Linear11Fixed(_) => true,
+        NumberFormat::Word(_) | NumberFormat::Half | NumberFormat::Vid(_) => false,
+    }
+}
+
+/// Whether a standard command keeps the standard's unit with this kind.
+fn keeps_unit(kind: &Kind) -> bool
+    ensures { result ≡ keeps_unit kind.now }
+{
+    match kind {
+        Kind::Number(format) => keeps_format(format),
+        Kind::Vout | Kind::VoutSigned => true,
+        Kind::Raw | Kind::Status | Kind::Text => false,
+    }
+}
+
+/// Whether a command of this code and kind may have the unit without the key.
+fn has_unit(entry: &Entry, unit: &str) -> bool
+    ensures { result ≡ has_unit (entry_parts entry.now) unit.now }
+{
+    keeps_unit(&entry.kind) && is_unit_of(unit, standard_unit(entry.code))
+}
+
+/// Appends the line of the unit, unless a command of this code and kind may have it without the key: at
+/// most 84 bytes.
+fn append_unit(lines: &mut Row, entry: &Entry, unit: Option<&str>)
     requires short { IfSome unit (λ u. length u.now ≤ 16) }
     requires room { length lines.old.items + 84 ≤ 2048 }
-    ensures text { lines.new.items ≡ lines.old.items ++ unit_line code (option_map (λ u. u.now) unit.entry) }
+    ensures text { lines.new.items ≡ lines.old.items ++ unit_line (entry_parts entry.now) (option_map (λ u. u.now) unit.entry) }
     ensures short { length lines.new.items ≤ length lines.old.items + 84 }
 {
     match unit {
         Some(unit) => {
-            if !is_unit_of(unit, standard_unit(code)) {
+            if !has_unit(entry, unit) {
                 append_spaces(lines, BEFORE_KINDS);
                 append(lines, b"unit ");
                 append(lines, unit.as_bytes());
@@ -97,7 +127,7 @@ pub(crate) fn meaning_lines(device: &DeviceProfile, entry: &Entry) -> Row
         → result.items ≡ meaning_lines command }
 {
     let mut lines = Row::new();
-    append_unit(&mut lines, entry.code, device.unit(entry.code));
+    append_unit(&mut lines, entry, device.unit(entry.code));
     append_bits(&mut lines, device.bits(entry.code));
     append_phased(&mut lines, device.is_phased(entry.code));
     lines
