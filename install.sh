@@ -1,0 +1,257 @@
+#!/bin/sh
+# Installs what stands in release/, and says what it puts where: the program pmb, the library for C
+# with its header, the manual's pages, and what pkg-config and CMake need to find the library. It
+# needs no make, no compiler and no toolchain.
+#
+#   ./install.sh                  into /usr/local
+#   ./install.sh --uninstall      removes from there what it would install
+#
+# Variables, in the environment or as words, such as `./install.sh PREFIX=/opt/pmb`:
+#
+#   PREFIX        /usr/local
+#   BINDIR        PREFIX/bin
+#   LIBDIR        PREFIX/lib
+#   INCLUDEDIR    PREFIX/include
+#   MANDIR        PREFIX/share/man
+#   DESTDIR       nothing: a folder in front of all of these, for who makes a package
+#
+# The status is 0, or 1 where something can't be installed, or 2 for a word that it doesn't know.
+
+here=$(pwd)
+root=$(CDPATH='' cd -P -- "$(dirname "$0")" && pwd) || exit 1
+
+# Tells why nothing is installed.
+fail() {
+    echo "install.sh: $*" >&2
+    exit 1
+}
+
+# Ends where a word makes no sense.
+usage() {
+    echo "install.sh: $1" >&2
+    sed -n '/^#   [.A-Z]/s/^#   //p' "$root/install.sh" >&2
+    exit 2
+}
+
+# ---- what is asked for
+
+# Takes the words of the command line.
+parse() {
+    task=put
+    for word; do
+        case $word in
+            --uninstall) task=remove ;;
+            --help | -h) sed -n '2,/^$/s/^# \{0,1\}//p' "$root/install.sh" && exit ;;
+            PREFIX=*) PREFIX=${word#*=} ;;
+            BINDIR=*) BINDIR=${word#*=} ;;
+            LIBDIR=*) LIBDIR=${word#*=} ;;
+            INCLUDEDIR=*) INCLUDEDIR=${word#*=} ;;
+            MANDIR=*) MANDIR=${word#*=} ;;
+            DESTDIR=*) DESTDIR=${word#*=} ;;
+            *) usage "it knows no word $word" ;;
+        esac
+    done
+}
+
+# Finds the folders. One that is installed into is told to other programs, so it is a whole path; that
+# in front of it may be one from the folder in which this is called.
+find_folders() {
+    PREFIX=${PREFIX:-/usr/local}
+    # (a `/` at its end, and a prefix that is `/`)
+    while [ "${PREFIX%/}" != "$PREFIX" ]; do PREFIX=${PREFIX%/}; done
+    BINDIR=${BINDIR:-$PREFIX/bin}
+    LIBDIR=${LIBDIR:-$PREFIX/lib}
+    INCLUDEDIR=${INCLUDEDIR:-$PREFIX/include}
+    MANDIR=${MANDIR:-$PREFIX/share/man}
+    for folder in "$PREFIX/" "$BINDIR" "$LIBDIR" "$INCLUDEDIR" "$MANDIR"; do
+        case $folder in
+            *"$newline"* | *[\"\'\`\\\$\#\;\|\@]*)
+                fail "pkg-config and CMake read a mark in this name as one of their own: ${folder%/}"
+                ;;
+            /*) ;;
+            *)
+                fail "a folder to install into is a whole path, such as /usr/local, and not" \
+                    "${folder%/}"
+                ;;
+        esac
+    done
+    case ${DESTDIR:=} in
+        '' | /*) ;;
+        *) DESTDIR=$here/$DESTDIR ;;
+    esac
+}
+
+# ---- what there is
+
+# Fails on a machine where the released files can't run.
+check_machine() {
+    machine=$(uname -sm)
+    [ "$machine" = 'Linux x86_64' ] ||
+        fail "the released program and library are for Linux on x86-64, and this is $machine"
+}
+
+# Fails where a released file is not the one that was committed.
+check_sums() {
+    if command -v sha256sum >/dev/null; then
+        sum=sha256sum
+    elif command -v shasum >/dev/null; then
+        sum='shasum -a 256'
+    else
+        fail 'neither sha256sum nor shasum is on the PATH, so the released files are not checked'
+    fi
+    sums=$(cat release/SHA256SUMS) || exit 1
+    found=$(cd release && $sum pmb libpmb.a libpmb.so) || exit 1
+    [ "$found" = "$sums" ] ||
+        fail "a file in $root/release is not the one that SHA256SUMS there lists: it is cut off or" \
+            'replaced. Bring it back (git checkout release), or make all anew (release/make)'
+}
+
+# Finds the version, which is the header's, and the names of the shared library: the one that linked
+# programs look for, and the file's, which has the version too.
+find_version() {
+    number=$(sed -n 's/^#define PMB_VERSION \(0x[0-9a-fA-F]*\)u$/\1/p' include/pmb.h)
+    [ -n "$number" ] || fail 'include/pmb.h has no PMB_VERSION'
+    version=$((number >> 16)).$((number >> 8 & 255)).$((number & 255))
+    soname=$(sh release/abi/nodes --soname) || fail 'release/abi/nodes has no name for the library'
+    shared=$soname.$version
+}
+
+# ---- what is made
+
+# A text as the right side of a sed command.
+quoted() {
+    printf '%s\n' "$1" | sed 's/[\\&|]/\\&/g'
+}
+
+# A folder as pmb.pc names it, where a blank has a mark in front.
+in_pc() {
+    printf '%s\n' "$1" | sed 's/ /\\ /g'
+}
+
+# The same, from the prefix where it lies under it.
+in_prefix() {
+    case $1 in
+        "$PREFIX"/*) in_pc "\${prefix}${1#"$PREFIX"}" ;;
+        *) in_pc "$1" ;;
+    esac
+}
+
+# The header's folder, from that of the libraries where both lie under the prefix, so that the whole
+# may be moved.
+headers() {
+    case $LIBDIR:$INCLUDEDIR in
+        "$PREFIX"/*:"$PREFIX"/*)
+            printf '%s\n' "${LIBDIR#"$PREFIX"}" | sed 's|/[^/][^/]*|../|g' | tr -d '\n'
+            printf '%s\n' "${INCLUDEDIR#"$PREFIX"/}"
+            ;;
+        *) printf '%s\n' "$INCLUDEDIR" ;;
+    esac
+}
+
+# Makes a file of its template.
+fill() {
+    sed -e "s|@VERSION@|$version|g" -e "s|@SONAME@|$soname|g" -e "s|@SHARED@|$shared|g" \
+        -e "s|@PREFIX@|$(quoted "$(in_pc "$PREFIX")")|g" \
+        -e "s|@LIBDIR@|$(quoted "$(in_prefix "$LIBDIR")")|g" \
+        -e "s|@INCLUDEDIR@|$(quoted "$(in_prefix "$INCLUDEDIR")")|g" \
+        -e "s|@HEADERS@|$(quoted "$(headers)")|g" "release/templates/$1.in" >"$made/$1"
+}
+
+# ---- what goes where
+
+# Calls a function for each installed file: with its mode, what it is a copy of, and its place; or
+# with `link`, what it names, and its place.
+each_file() {
+    "$1" 755 release/pmb "$BINDIR/pmb" &&
+        "$1" 644 include/pmb.h "$INCLUDEDIR/pmb.h" &&
+        "$1" 644 release/libpmb.a "$LIBDIR/libpmb.a" &&
+        "$1" 755 release/libpmb.so "$LIBDIR/$shared" &&
+        "$1" link "$shared" "$LIBDIR/$soname" &&
+        "$1" link "$soname" "$LIBDIR/libpmb.so" &&
+        "$1" 644 "$made/pmb.pc" "$LIBDIR/pkgconfig/pmb.pc" &&
+        "$1" 644 "$made/pmb-config.cmake" "$LIBDIR/cmake/pmb/pmb-config.cmake" &&
+        "$1" 644 "$made/pmb-config-version.cmake" "$LIBDIR/cmake/pmb/pmb-config-version.cmake" ||
+        return
+    for page in man/*.[13]; do
+        "$1" 644 "$page" "$MANDIR/man${page##*.}/${page##*/}" || return
+    done
+}
+
+# Puts a file there. It is whole from the first moment, also where one of that name is in use.
+put() {
+    place=$DESTDIR$3
+    mkdir -p "${place%/*}" || return
+    if [ "$1" = link ]; then
+        ln -s "$2" "$place.new$$" && mv -f "$place.new$$" "$place" && echo "$place -> $2"
+    else
+        cp "$2" "$place.new$$" && chmod "$1" "$place.new$$" && mv -f "$place.new$$" "$place" &&
+            echo "$place"
+    fi || { rm -f "$place.new$$" && false; }
+}
+
+# Removes a file, if it is there.
+remove() {
+    place=$DESTDIR$3
+    [ -e "$place" ] || [ -h "$place" ] || return 0
+    rm -f "$place" && echo "$place is removed"
+}
+
+# Removes the shared library of other versions, which no link names any more. (A program that has one
+# open keeps it.)
+remove_others() {
+    for other in "$DESTDIR$LIBDIR/$soname".[0-9]*; do
+        [ "$other" = "$DESTDIR$LIBDIR/$shared" ] || remove 644 none "${other#"$DESTDIR"}"
+    done
+}
+
+# Removes the folders that are the library's own, where they are empty.
+remove_folders() {
+    for folder in "$LIBDIR/cmake/pmb" "$LIBDIR/cmake" "$LIBDIR/pkgconfig"; do
+        rmdir "$DESTDIR$folder" 2>/dev/null
+    done
+    true
+}
+
+# Lets the loader see what came or went, or says what to do. The folders are those where it looks by
+# itself; a package's own scripts do this for what stands below DESTDIR.
+tell_loader() {
+    [ -z "$DESTDIR" ] || return 0
+    case $LIBDIR in
+        /lib | /lib64 | /usr/lib | /usr/lib64 | /usr/local/lib | /usr/local/lib64 | \
+            /lib/x86_64-linux-gnu | /usr/lib/x86_64-linux-gnu | /usr/local/lib/x86_64-linux-gnu)
+            if [ "$(id -u)" != 0 ]; then
+                echo "install.sh: with glibc, call ldconfig as root, so that the loader looks anew"
+            elif command -v ldconfig >/dev/null; then
+                ldconfig
+            fi
+            ;;
+        *)
+            [ "$task" = remove ] ||
+                echo "install.sh: the loader doesn't look in $LIBDIR by itself: link programs with" \
+                    "-Wl,-rpath,$LIBDIR, or set LD_LIBRARY_PATH=$LIBDIR"
+            ;;
+    esac
+}
+
+newline='
+'
+umask 022
+parse "$@"
+find_folders
+cd "$root" || exit 1
+find_version
+made=''
+if [ "$task" = put ]; then
+    check_machine
+    check_sums
+    made=$(mktemp -d) || exit 1
+    trap 'rm -rf "$made"' EXIT
+    trap 'exit 1' HUP INT TERM
+    for file in pmb.pc pmb-config.cmake pmb-config-version.cmake; do
+        fill "$file" || fail "$file can't be made of release/templates/$file.in"
+    done
+fi
+each_file "$task" || fail 'not all is done: see above'
+remove_others
+[ "$task" = put ] || remove_folders
+tell_loader
