@@ -388,6 +388,12 @@ static int32_t write_bit(int code, int bit, char *text, size_t room, size_t *len
     return pmb_bit_name((uint8_t)code, (uint8_t)bit, text, room, length);
 }
 
+static int32_t write_status(int status, int unused, char *text, size_t room, size_t *length)
+{
+    (void)unused;
+    return pmb_status_name(status, text, room, length);
+}
+
 static const pmb_quantity quantities[] = {
     {12, 1}, {-6, 4}, {2, -3}, {0, 9}, {1, INT64_C(0x3fffffffffffffff)}, {1, 65536}, {5, 0},
     {INT64_MIN, 1}, {-INT64_C(0x3fffffffffffffff), INT64_C(1) << 24},
@@ -422,6 +428,21 @@ static int texts_out(void)
     EXPECT(!writes(write_bit, 0x79, 16, PMB_NO_NAME, ""));
     EXPECT(!writes(write_bit, 0x79, 255, PMB_NO_NAME, ""));
     EXPECT(!writes(write_bit, 0x21, 0, PMB_NO_NAME, ""));
+    EXPECT(!writes(write_status, PMB_OK, 0, PMB_OK, "PMB_OK"));
+    EXPECT(!writes(write_status, PMB_BAD_FORMAT, 0, PMB_OK, "PMB_BAD_FORMAT"));
+    EXPECT(!writes(write_status, PMB_ZERO_DENOMINATOR, 0, PMB_OK, "PMB_ZERO_DENOMINATOR"));
+    EXPECT(!writes(write_status, PMB_OFF, 0, PMB_OK, "PMB_OFF"));
+    EXPECT(!writes(write_status, PMB_CLOSED, 0, PMB_OK, "PMB_CLOSED"));
+    EXPECT(!writes(write_status, PMB_CLOSED + 1, 0, PMB_NO_NAME, ""));
+    EXPECT(!writes(write_status, -1, 0, PMB_NO_NAME, ""));
+    EXPECT(!writes(write_status, INT32_MIN, 0, PMB_NO_NAME, ""));
+    EXPECT(!writes(write_status, INT32_MAX, 0, PMB_NO_NAME, ""));
+    for (code = 0; code <= PMB_CLOSED; code++) {
+        char text[PMB_MOST_STATUS_NAME + 1];
+        size_t length;
+        EXPECT(pmb_status_name(code, text, sizeof text, &length) == PMB_OK);
+        EXPECT(length <= PMB_MOST_STATUS_NAME);
+    }
     for (code = 0; code < 256; code++) {
         char text[PMB_MOST_COMMAND_NAME + 1];
         size_t length;
@@ -613,11 +634,30 @@ static int far_offsets(void)
     return 0;
 }
 
+/* A pointer whose length is 0 may be null. */
+static int nulls(void)
+{
+    const pmb_quantity twelve = {12, 1};
+    pmb_quantity quantity;
+    pmb_lexer lexer;
+    pmb_event event;
+    size_t length = 9, used = 9;
+    EXPECT(pmb_pec(0x5a, NULL, 0) == 0x5a);
+    EXPECT(pmb_quantity_parse(NULL, 0, &quantity) == PMB_EMPTY);
+    EXPECT(pmb_quantity_text(twelve, NULL, 0, &length) == PMB_NO_ROOM && length == 2);
+    EXPECT(pmb_command_name(0x88, NULL, 0, &length) == PMB_NO_ROOM && length == 8);
+    EXPECT(pmb_bit_name(0x79, 15, NULL, 0, &length) == PMB_NO_ROOM && length == 4);
+    EXPECT(pmb_status_name(PMB_OK, NULL, 0, &length) == PMB_NO_ROOM && length == 6);
+    memset(&lexer, 0, sizeof lexer);
+    EXPECT(pmb_lex(&lexer, NULL, 0, &used, &event) == PMB_NO_EVENT && used == 0);
+    return 0;
+}
+
 static void *all(void *result)
 {
     *(int *)result = pmb_version() != PMB_VERSION || pecs() || formats() || half_precision() ||
                      vid_tables() || unsigned_direct() || round_trips() || texts_in() ||
-                     texts_out() || events() || senseless() || far_offsets();
+                     texts_out() || events() || senseless() || far_offsets() || nulls();
     return result;
 }
 

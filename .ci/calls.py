@@ -354,6 +354,8 @@ def compare_fault(program, profile, error):
     place = "" if error.place == "profile" else " in " + error.place
     check(first == f"pmb: profile: {error.fault}{place}", f"the fault of {profile[:60]!r}: {error}")
     check(error.hint == hint.rstrip("\n"), f"the hint of {profile[:60]!r}: {error.hint!r}")
+    begins = f"  line {error.line}, column {error.column}: "
+    check(hint.startswith(begins), f"the place in {profile[:60]!r}: {begins!r}, and not {hint!r}")
     right = "\n".join([f"{error.fault} in {error.place}"] + hint.splitlines())
     check(str(error) == right, f"the text of {profile[:60]!r}: {error}")
 
@@ -799,7 +801,9 @@ def compare_names_of_arguments():
         ("text is a str or bytes, not int", pmb.quantity, 5),
         ("text is a str, bytes, or an iterable of such pieces, not int", pmb.events, 5),
         ("a piece of text is a str or bytes, not int", list, pmb.events([5])),
-        ("profile is a str or bytes, not int", pmb.show, 5, ""),
+        ("profile is a str, bytes or a pmb.Profile, not int", pmb.show, 5, ""),
+        ("profile is a str, bytes or a pmb.Profile, not NoneType", pmb.transactions, None, ""),
+        ("text is a str or bytes, not int", pmb.Profile, 5),
         ("capture is a str or bytes, not int", pmb.show, PLAIN, 5),
         ("capture is a str or bytes, not int", pmb.check, PLAIN, 5),
         ("capture is a str or bytes, not int", pmb.json, PLAIN, 5),
@@ -1025,7 +1029,7 @@ def compare_imports(program, count):
     times = pmb._IMPORT
     try:
         right = pmb.imported("kernel", "i2c_result: \n" * 50000)
-        pmb._IMPORT = (times[0], 0)
+        pmb._IMPORT = times._replace(times=0)
         check(pmb.imported("kernel", "i2c_result: \n" * 50000) == right, "in a small room")
     finally:
         pmb._IMPORT = times
@@ -1049,25 +1053,24 @@ def compare_rooms():
         (pmb.run, "_RUN", PLAIN + block, "read 58 e0\n" * 2000),
         (pmb.show, "_SHOW", PLAIN, ""),
     ):
-        function, times = getattr(pmb, name)
-        made = []
+        task, made = getattr(pmb, name), []
 
         def counted(*given):
             made.append(given)
-            return function(*given)
+            return task.alone(*given)
 
         try:
-            setattr(pmb, name, (counted, times))
+            setattr(pmb, name, task._replace(alone=counted))
             right = call(profile, text)
             check(len(made) == 1, f"{name} of {text[:12]!r} is called {len(made)} times")
             made.clear()
-            setattr(pmb, name, (counted, 0))
+            setattr(pmb, name, task._replace(alone=counted, times=0))
             check(call(profile, text) == right, f"{name} of {text[:12]!r} in a small room")
             calls = 1 if len(right) <= pmb._BESIDES else 2
             check(len(made) == calls, f"{name} in a small room: {len(made)} calls")
         finally:
-            setattr(pmb, name, (function, times))
-    # objects of a text of some 20 MB, of which what is read is given back
+            setattr(pmb, name, task)
+    # objects of a text of some 20 MB
     packets = "S b0 A 03 A P\n" * 150000
     found = pmb.transactions(PLAIN, packets)
     for at, it in enumerate(found):
@@ -1193,6 +1196,145 @@ def compare_threads():
     check(not wrong, f"in threads: {wrong[:3]}")
 
 
+# ---- profiles that are read once
+
+def has_profiles():
+    if not pmb._HAS_PROFILES:
+        print("library: it has no pmb_profile_open, so no profile was kept", file=sys.stderr)
+    return pmb._HAS_PROFILES
+
+
+def compare_profiles(count):
+    """Calls under a profile that was read once, beside those under its text."""
+    if not has_profiles():
+        return
+    r = random.Random(64)
+    kept = [(command, *rest) for commands, *rest in examples() for command in commands]
+    opened = {profile: pmb.Profile(profile) for _, profile, _ in kept}
+    for at in range(len(kept) + count // 200):
+        command, profile, text = kept[at] if at < len(kept) else r.choice(kept)
+        text = text if at < len(kept) else disturbed(r, text[: r.randrange(600)])
+        options = {"strict": False} if command == "build" else {}
+        if command == "json":
+            options = {"digits": r.randrange(13), "keep_going": True, "devices": [0x58, "40"]}
+        right = getattr(pmb, command)(profile, text, **options)
+        held = opened[profile]
+        for found in (
+            getattr(held, command)(text, **options),
+            getattr(pmb, command)(held, text, **options),
+        ):
+            counts = found.packets, found.refusals
+            check(found == right, f"{command} under {held} of {text[:60]!r}: {found[:200]!r}")
+            check(counts == (right.packets, right.refusals), f"{command} under {held}: {counts}")
+        if command == "json":
+            right = list(pmb.transactions(profile, text, **options))
+            check(list(held.transactions(text, **options)) == right, f"transactions under {held}")
+    for wrong in (5, None, ["x"]):
+        check_raises(TypeError, pmb.Profile, wrong)
+    for bad in (PLAIN + "x = 1", b"x", PLAIN.replace("0x58", "0xb0")):
+        errors = []
+        for call in (pmb.Profile, lambda bad: pmb.show(bad, "")):
+            try:
+                call(bad)
+            except pmb.ProfileError as error:
+                errors.append(told(error))
+        check(len(errors) == 2 and errors[0] == errors[1], f"{bad!r}: {errors}")
+
+
+def compare_closed():
+    """Profiles that are closed, also twice, and copies of those that are open."""
+    if not has_profiles():
+        return
+    profile = pmb.Profile(bytearray(PLAIN.encode()))
+    check(not profile.closed and repr(profile) == f"<pmb.Profile of {len(PLAIN)} bytes>", f"{profile}")
+    for _ in range(2):
+        profile.close()
+        check(profile.closed and repr(profile).endswith(", closed>"), f"{profile}")
+    for call, *given in (
+        (profile.show, ""),
+        (profile.check, ""),
+        (profile.build, ""),
+        (profile.run, ""),
+        (profile.json, ""),
+        (profile.transactions, ""),
+        (pmb.show, profile, ""),
+        (pmb.transactions, profile, ""),
+        (profile.__enter__,),
+        (copy.copy, profile),
+        (pickle.dumps, profile),
+    ):
+        check(raised(ValueError, call, *given) == "the profile is closed", f"{call} of a closed profile")
+    with pmb.Profile(PLAIN) as profile:
+        for way in (copy.copy, copy.deepcopy, lambda it: pickle.loads(pickle.dumps(it))):
+            again = way(profile)
+            check(again.show("S b0 A 03 A P") == profile.show("S b0 A 03 A P"), f"{again}")
+    check(profile.closed, f"{profile} after its block")
+    captures = ["", "S b0 A 03 A P", "S"]
+    for kind in ("fork", "spawn"):
+        with multiprocessing.get_context(kind).Pool(2) as pool, pmb.Profile(PLAIN) as profile:
+            for call in (profile.show, functools.partial(pmb.show, profile)):
+                found = pool.map_async(call, captures).get(60)
+                check(found == [call(capture) for capture in captures], f"{kind}: {found}")
+
+
+def raised(wrong, call, *given):
+    """What an error says that a call raises, or what it returns."""
+    try:
+        return call(*given)
+    except wrong as error:
+        return str(error)
+
+
+def in_threads(count, work):
+    threads = [threading.Thread(target=work, args=(at,)) for at in range(count)]
+    for thread in threads:
+        thread.start()
+    for thread in threads:
+        thread.join()
+
+
+def compare_shared():
+    """One profile and one iterator in several threads."""
+    if not has_profiles():
+        return
+    _, toml, text = next(examples())
+    profile = pmb.Profile(toml)
+    shown, objects = pmb.show(toml, text), list(pmb.transactions(toml, text))
+    wrong = []
+
+    def under_profile(at):
+        for _ in range(40):
+            if profile.show(text) != shown or list(profile.transactions(text)) != objects:
+                wrong.append(at)
+
+    in_threads(4, under_profile)
+    check(not wrong and 1 <= len(profile._free) <= 4, f"{wrong[:3]}, {len(profile._free)} handles")
+    whole, found = pmb.transactions(PLAIN, "S b0 A 03 A P\n" * 20000), [[] for _ in range(3)]
+
+    def taken(at):
+        for it in whole:
+            found[at].append(it["line"])
+
+    in_threads(3, taken)
+    lines = sorted(line for each in found for line in each)
+    check(lines == list(range(1, 20001)), f"{len(lines)} objects in three threads")
+    # closed by one thread while another is in a call
+    for _ in range(20):
+        profile = pmb.Profile(toml)
+        ended = []
+
+        def until_closed(at):
+            try:
+                while profile.show(text) == shown:
+                    pass
+                ended.append("something else")
+            except ValueError as error:
+                ended.append(str(error))
+
+        in_threads(3, lambda at: until_closed(at) if at else profile.close())
+        check(ended == ["the profile is closed"] * 2, f"closed in another thread: {ended}")
+
+
 def main():
     program = os.path.abspath(sys.argv[1])
     compare(program, int(sys.argv[2]) if len(sys.argv) > 2 else 10000)
@@ -1216,6 +1358,9 @@ def main():
     compare_program(program)
     compare_page()
     compare_threads()
+    compare_profiles(int(sys.argv[2]) if len(sys.argv) > 2 else 10000)
+    compare_closed()
+    compare_shared()
     ran = subprocess.run([program, "--version"], capture_output=True)
     check(ran.stdout.decode().split()[-1] == pmb.version(), f"the version {pmb.version()}")
     return 1 if failed else 0

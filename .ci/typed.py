@@ -80,6 +80,15 @@ def calls(capture: str) -> None:
     pmb.decode("linear11", 3.0)  # type: ignore[arg-type]
 
 
+def handles(text: str) -> None:
+    with pmb.Profile(text) as profile:
+        shown: pmb.Text = profile.show(text)
+        found: Iterator[Object] = profile.transactions(text, ["58"], late=True)
+        print(shown.packets, pmb.check(profile, text), list(found), profile.closed)
+        pmb.Profile(profile)  # type: ignore[arg-type]
+        profile.show(5)  # type: ignore[arg-type]
+
+
 def made() -> Write:
     return {  # type: ignore[typeddict-item]
         "at": 0,

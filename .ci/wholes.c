@@ -13,9 +13,6 @@
 #ifndef STACK
 #define STACK (1 << 20)
 #endif
-#ifndef IMPORT_STACK
-#define IMPORT_STACK (1 << 21)
-#endif
 
 static int fail(const char *what, int line)
 {
@@ -28,57 +25,7 @@ static int fail(const char *what, int line)
         if (!(holds)) return fail(#holds, __LINE__);                                               \
     } while (0)
 
-/* ---- the allocations of the library */
-
-/* Counted where `counting` is set: how many there were, and how many blocks are not freed. That with
- * the number `refused` is refused, and all later ones too where `later` is set. */
-static int counting, later;
-static long allocations, live, refused;
-
-#ifdef REFUSES
-#ifdef __cplusplus
-extern "C" {
-#endif
-void *__real_malloc(size_t size);
-void *__real_realloc(void *old, size_t size);
-void __real_free(void *old);
-void *__wrap_malloc(size_t size);
-void *__wrap_realloc(void *old, size_t size);
-void __wrap_free(void *old);
-#ifdef __cplusplus
-}
-#endif
-
-static int refuses(void)
-{
-    allocations++;
-    return allocations == refused || (later && refused != 0 && allocations > refused);
-}
-
-void *__wrap_malloc(size_t size)
-{
-    void *block;
-    if (!counting) return __real_malloc(size);
-    block = refuses() ? NULL : __real_malloc(size);
-    live += block != NULL;
-    return block;
-}
-
-void *__wrap_realloc(void *old, size_t size)
-{
-    void *block;
-    if (!counting) return __real_realloc(old, size);
-    block = refuses() ? NULL : __real_realloc(old, size);
-    live += block != NULL && old == NULL;
-    return block;
-}
-
-void __wrap_free(void *old)
-{
-    if (counting) live -= old != NULL;
-    __real_free(old);
-}
-#endif
+#include "allocations.h"
 
 /* ---- what is called */
 
@@ -158,12 +105,19 @@ static int all_are(const char *bytes, size_t length, char byte)
     return 1;
 }
 
-static int tells(const pmb_result *told, int status, int fault, int device, int command,
-                 size_t length, uint64_t packets, uint64_t refusals)
+static int tells_but_place(const pmb_result *told, int status, int fault, int device, int command,
+                           size_t length, uint64_t packets, uint64_t refusals)
 {
     return told->status == status && told->fault == fault && told->device == device &&
            told->command == command && told->length == length && told->packets == packets &&
            told->refusals == refusals;
+}
+
+static int tells(const pmb_result *told, int status, int fault, int device, int command,
+                 size_t length, uint64_t packets, uint64_t refusals)
+{
+    return tells_but_place(told, status, fault, device, command, length, packets, refusals) &&
+           told->line == 0 && told->column == 0;
 }
 
 /* ---- rooms of each size */
@@ -266,17 +220,19 @@ static int faults(void)
     return is_refused(many, strlen(many), PMB_TOO_MANY_DEVICES, -1, -1);
 }
 
-/* Profiles with a fault, the first line that is written of it, and a word of those that help. */
+/* Profiles with a fault, the first line that is written of it, a word of those that help, and the line
+ * and column. */
 static const struct explained {
     const char *toml;
     int fault, device, command;
     const char *first, *helps;
+    uint32_t line, column;
 } explained_profiles[] = {
     {"[[device]]\naddress = 0xb0\npec = \"on\"\n", PMB_BAD_ADDRESS, 0, -1,
-     "pmb: profile: BadAddress in device 0\n", "8-bit form of 58h"},
-    {"\nx = \n", PMB_NOT_TOML, -1, -1, "pmb: profile: NotToml\n", "line 2: "},
+     "pmb: profile: BadAddress in device 0\n", "8-bit form of 58h", 2, 1},
+    {"\nx = \n", PMB_NOT_TOML, -1, -1, "pmb: profile: NotToml\n", "line 2, column 5: ", 2, 5},
     {DEVICE COMMAND "code = 0xd0\nname = \"X\"\nwrite = \"wrod\"\n", PMB_BAD_FORM, 0, 0,
-     "pmb: profile: BadForm in device 0 command 0\n", "wrod"},
+     "pmb: profile: BadForm in device 0 command 0\n", "wrod", 7, 1},
 };
 
 static int is_explained(const struct explained *it)
@@ -294,7 +250,9 @@ static int is_explained(const struct explained *it)
         memset(bytes, '~', sizeof bytes);
         memset(&told, 0x5a, sizeof told);
         EXPECT(pmb_profile_fault(it->toml, toml, bytes + 1, room, &told) == length);
-        EXPECT(tells(&told, PMB_BAD_PROFILE, it->fault, it->device, it->command, length, 0, 0));
+        EXPECT(tells_but_place(&told, PMB_BAD_PROFILE, it->fault, it->device, it->command, length, 0,
+                               0));
+        EXPECT(told.line == it->line && told.column == it->column);
         EXPECT(bytes[0] == '~' && memcmp(bytes + 1, whole, kept) == 0);
         EXPECT(all_are(bytes + 1 + kept, sizeof bytes - 1 - kept, '~'));
     }
@@ -586,10 +544,35 @@ static int refusals_of_fault(const struct explained *it)
         if (told.status == PMB_NO_MEMORY) {
             EXPECT(tells(&told, PMB_NO_MEMORY, 0, -1, -1, 0, 0, 0));
         } else {
-            EXPECT(tells(&told, PMB_BAD_PROFILE, it->fault, it->device, it->command, told.length, 0,
-                         0));
+            /* (lines that help, and the place, or neither) */
+            const int has_place = told.length > strlen(it->first);
+            EXPECT(tells_but_place(&told, PMB_BAD_PROFILE, it->fault, it->device, it->command,
+                                   told.length, 0, 0));
             EXPECT(memcmp(bytes, it->first, strlen(it->first)) == 0);
+            EXPECT(told.line == (has_place ? it->line : 0));
+            EXPECT(told.column == (has_place ? it->column : 0));
         }
+    }
+    return 0;
+}
+
+static int refusals_of_import(const struct recorded *it)
+{
+    long most;
+    char bytes[MOST];
+    pmb_result told;
+    allocations = live = refused = 0;
+    pmb_import(&it->recorder, it->bus, strlen(it->bus), it->text, strlen(it->text), bytes,
+               sizeof bytes, &told);
+    most = allocations;
+    EXPECT(told.status == PMB_OK && told.length == strlen(it->right) && live == 0 && most > 0);
+    for (refused = 1; refused <= most; refused++) {
+        memset(bytes, '~', sizeof bytes);
+        allocations = 0;
+        EXPECT(pmb_import(&it->recorder, it->bus, strlen(it->bus), it->text, strlen(it->text), bytes,
+                          sizeof bytes, &told) == 0);
+        EXPECT(live == 0 && tells(&told, PMB_NO_MEMORY, 0, -1, -1, 0, 0, 0));
+        EXPECT(all_are(bytes, sizeof bytes, '~'));
     }
     return 0;
 }
@@ -599,6 +582,9 @@ static int refusals(void)
     size_t i;
     int failed = 0;
     counting = 1;
+    for (later = 0; later <= 1 && !failed; later++)
+        for (i = 0; i < sizeof recordings / sizeof *recordings && !failed; i++)
+            if (refusals_of_import(&recordings[i])) failed = fail(recordings[i].right, __LINE__);
     for (later = 0; later <= 1 && !failed; later++)
         for (i = 0; i < sizeof explained_profiles / sizeof *explained_profiles && !failed; i++)
             failed = refusals_of_fault(&explained_profiles[i]);
@@ -610,16 +596,32 @@ static int refusals(void)
 }
 #endif
 
+/* A pointer whose length is 0 may be null: an empty text, or no room. */
+static int nulls(void)
+{
+    pmb_recorder recorder;
+    pmb_result told;
+    int call;
+    memset(&recorder, 0, sizeof recorder);
+    for (call = SHOW; call <= JSON; call++) {
+        EXPECT(call_on((enum call)call, NULL, 0, PACKET, sizeof PACKET - 1, NULL, 0, &told) == 0);
+        EXPECT(told.status == PMB_BAD_PROFILE && told.fault == PMB_MISSING_KEY);
+        EXPECT(call_on((enum call)call, profile, sizeof profile - 1, NULL, 0, NULL, 0, &told) ==
+               told.length);
+        EXPECT(told.status == (told.length == 0 ? PMB_OK : PMB_NO_ROOM) && told.packets == 0);
+    }
+    EXPECT(pmb_json(profile, sizeof profile - 1, NULL, 0, &usual, NULL, 0, NULL, 0, &told) > 0);
+    EXPECT(told.status == PMB_NO_ROOM);
+    EXPECT(pmb_import(&recorder, NULL, 0, NULL, 0, NULL, 0, &told) == told.length);
+    EXPECT(told.status == PMB_NO_ROOM && told.refusals == 1);
+    EXPECT(pmb_profile_fault(NULL, 0, NULL, 0, &told) > 0 && told.fault == PMB_MISSING_KEY);
+    return 0;
+}
+
 static void *all(void *result)
 {
     *(int *)result = rooms() || faults() || explanations() || nested() || choices() ||
-                     addresses() || json_as_chosen() || json_of_others() || large();
-    return result;
-}
-
-static void *all_imports(void *result)
-{
-    *(int *)result = imports();
+                     addresses() || json_as_chosen() || json_of_others() || imports() || large() || nulls();
     return result;
 }
 
@@ -644,16 +646,13 @@ static int in_threads(void *(*call)(void *), size_t stack)
 
 int main(void)
 {
-    int alone, imported, failed;
-    all(&alone);
-    all_imports(&imported);
-    failed = alone | imported;
+    int failed;
+    all(&failed);
 #ifdef REFUSES
     failed |= refusals();
 #else
     (void)counting, (void)later, (void)allocations, (void)live, (void)refused;
 #endif
     failed |= in_threads(all, STACK);
-    failed |= in_threads(all_imports, IMPORT_STACK);
     return failed;
 }

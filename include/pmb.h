@@ -1,13 +1,14 @@
 /* pmb.h: the proved PMBus codec for C99 and C++.
  *
- * Link with release/libpmb.a or release/libpmb.so. docs/library.md begins with a first program.
+ * Link with -lpmb; in a clone, where nothing is installed, with release/libpmb.a or
+ * release/libpmb.so. docs/library.md begins with a first program.
  *
  * For every function here:
- *  - It keeps nothing between calls and starts nothing. It may be called from several threads side by
- *    side. Two calls at one time may not write to the same place.
- *  - No pointer may be null, also where a length is 0. Behind a pointer with a length there are
- *    that many bytes, up to 2^63 - 1. What a call writes to overlaps neither what it reads nor what
- *    else it writes to.
+ *  - It keeps nothing between calls, but for what a handle holds, and starts nothing. It may be
+ *    called from several threads side by side. Two calls at one time may not write to the same place.
+ *  - A pointer whose length is 0 may be null: it is an empty text, or no room. No other pointer may
+ *    be. Behind a pointer with a length there are that many bytes, up to 2^63 - 1. What a call writes
+ *    to overlaps neither what it reads nor what else it writes to.
  *  - Every value is allowed. A status says what is out of range.
  *
  * There are two parts. Up to the line "whole inputs" below, for each function:
@@ -87,7 +88,9 @@ enum pmb_status {
     /* The code has no value: the VID table has no voltage for it. */
     PMB_NO_CODE = 23,
     /* The code has no value: in the VID table it stands for an output that is off. */
-    PMB_OFF = 24
+    PMB_OFF = 24,
+    /* The handle is not open. */
+    PMB_CLOSED = 25
 };
 
 /* A quantity: an exact fraction, without a unit. What is given may be any fraction, of any signs.
@@ -168,6 +171,7 @@ int32_t pmb_quantity_parse(const char *text, size_t length, pmb_quantity *quanti
 #define PMB_MOST_QUANTITY_TEXT 45
 #define PMB_MOST_COMMAND_NAME 32
 #define PMB_MOST_BIT_NAME 17
+#define PMB_MOST_STATUS_NAME 20
 
 /* Writes the text of a quantity, and a NUL: its shortest exact decimal where one has at most 24
  * digits after the point, and otherwise numerator, '/' and denominator in lowest terms. length is
@@ -185,6 +189,11 @@ int32_t pmb_command_name(uint8_t code, char *text, size_t room, size_t *length);
  * characters it has, also where they don't fit; 0 where there is no name.
  * Returns PMB_NO_NAME, or else PMB_NO_ROOM. */
 int32_t pmb_bit_name(uint8_t code, uint8_t bit, char *text, size_t room, size_t *length);
+
+/* Writes the name of a status as this header has it, and a NUL, as "PMB_BAD_FORMAT" of 3. length is
+ * set to how many characters it has, also where they don't fit; 0 where there is no such status.
+ * Returns PMB_NO_NAME, or else PMB_NO_ROOM. */
+int32_t pmb_status_name(int32_t status, char *text, size_t room, size_t *length);
 
 /* The kinds of events of a bus. */
 enum pmb_event_kind { PMB_START = 0, PMB_BYTE = 1, PMB_ACK = 2, PMB_NACK = 3, PMB_STOP = 4 };
@@ -232,9 +241,10 @@ int32_t pmb_lex_end(pmb_lexer *lexer, pmb_event *event);
  *    length is found.
  *  - The status in `told` is PMB_OK; or PMB_NO_ROOM where the text doesn't fit; or PMB_BAD_PROFILE or
  *    PMB_NO_MEMORY, and then the room stays and the length is 0.
- *  - It takes memory for the profile by malloc and realloc, pmb_run for its devices too, and frees
- *    all of it before it returns; what is read and written takes none. It uses less than 448 KB of
- *    stack, and pmb_import less than 768 KB. It may not be called from a signal handler.
+ *  - It takes memory by malloc and realloc: for the profile, pmb_run for its devices too, and up to
+ *    400 KB for what it reads and writes (docs/library.md). It frees all of it before it returns. It
+ *    uses less than 96 KB of stack, pmb_json less than 108 KB and pmb_import less than 120 KB. It may
+ *    not be called from a signal handler.
  *  - Of the C library it calls malloc, realloc, free, memcpy, memmove and memset.
  */
 
@@ -273,6 +283,10 @@ typedef struct pmb_result {
      * came of a recording, and how many lines of the capture tell that something is missing. */
     uint64_t packets;
     uint64_t refusals;
+    /* pmb_profile_fault: where in the profile's text the fault is, both counted from 1, the column in
+     * bytes. A line ends with LF. 0 and 0 where no place is known, and after each other call. */
+    uint32_t line;
+    uint32_t column;
 } pmb_result;
 
 /* Writes a line for each packet of a capture, with what it says, and for each refusal. */
@@ -342,7 +356,7 @@ typedef struct pmb_recorder {
  * missing. Of the bus only its bytes count, as the recording writes its name; where names_bus is 0
  * they are not read, and the length may be 0. Something is missing where told->refusals is not 0: then
  * `pmb import` has the status 1.
- * The status is PMB_BAD_CHOICE, before all others, for a field out of range. No memory is taken. */
+ * The status is PMB_BAD_CHOICE, before all others, for a field out of range. */
 size_t pmb_import(const pmb_recorder *recorder, const char *bus, size_t bus_length,
                   const char *recording, size_t recording_length, char *out, size_t room,
                   pmb_result *told);
@@ -352,10 +366,63 @@ size_t pmb_import(const pmb_recorder *recorder, const char *bus, size_t bus_leng
 
 /* Writes what `pmb profile` reports of a profile that has a fault: a line with the fault and its
  * place, and lines that help, each with its LF. They are for people, and may change with each
- * version. The status is PMB_BAD_PROFILE, with the fault and its place, also where the text doesn't
- * fit; or PMB_OK for a profile without a fault, of which nothing is written; or PMB_NO_MEMORY. */
+ * version. The status is PMB_BAD_PROFILE, with the fault, its place, and its line and column, also
+ * where the text doesn't fit; or PMB_OK for a profile without a fault, of which nothing is written; or
+ * PMB_NO_MEMORY. */
 size_t pmb_profile_fault(const char *profile, size_t profile_length, char *out, size_t room,
                          pmb_result *told);
+
+/* ---- handles
+ *
+ * A handle stands in memory of the caller's and holds memory of the library's. Begin with a closed one,
+ * `pmb_profile profile = { 0 };`: what is open is closed by the call named so, and closing one that is
+ * closed does nothing. A handle may be moved, but not copied: only one of two copies may be used. Each
+ * is used by one call at a time. It may go to another thread between two calls. For several threads
+ * at one time, give each a profile of its own by pmb_profile_share, which takes no time.
+ * A call with a closed handle returns PMB_CLOSED, or tells it as its status, and does nothing else.
+ */
+
+/* A profile that was read once. It holds as much memory as the table in docs/library.md says of a call
+ * with that profile, and 24 bytes for each handle. */
+typedef struct pmb_profile {
+    void *held;
+} pmb_profile;
+
+/* Reads a profile. What the handle held before is closed first.
+ * Returns PMB_OK, PMB_BAD_PROFILE, where `told` has the fault, or PMB_NO_MEMORY; then the handle is
+ * closed. */
+int32_t pmb_profile_open(pmb_profile *profile, const char *text, size_t length, pmb_result *told);
+
+/* Opens another handle of the same profile. It needs no memory but that of the handle. What `other` held
+ * before is closed first. Returns PMB_OK, PMB_CLOSED or PMB_NO_MEMORY. */
+int32_t pmb_profile_share(pmb_profile *profile, pmb_profile *other);
+
+/* Closes the handle. Other handles of the same profile stay open. */
+void pmb_profile_close(pmb_profile *profile);
+
+/* Writes what pmb_show writes of a capture, under the profile that the handle holds: what goes in and
+ * comes out is the same. The status may also be PMB_CLOSED. */
+size_t pmb_profile_show(pmb_profile *profile, const char *capture, size_t capture_length, char *out,
+                        size_t room, pmb_result *told);
+
+/* Writes what pmb_check writes of a capture, as pmb_profile_show does what pmb_show does. */
+size_t pmb_profile_check(pmb_profile *profile, const char *capture, size_t capture_length, char *out,
+                         size_t room, pmb_result *told);
+
+/* Writes what pmb_build writes of transaction lines, in the same way. */
+size_t pmb_profile_build(pmb_profile *profile, const char *lines, size_t lines_length, char *out,
+                         size_t room, pmb_result *told);
+
+/* Writes what pmb_run writes of requests, in the same way: each call begins with devices as they are
+ * first made. */
+size_t pmb_profile_run(pmb_profile *profile, const char *requests, size_t requests_length, char *out,
+                       size_t room, pmb_result *told);
+
+/* Writes what pmb_json writes of a capture, in the same way. A choice that is out of range is told before
+ * a closed handle. */
+size_t pmb_profile_json(pmb_profile *profile, const char *capture, size_t capture_length,
+                        const pmb_choice *choice, const uint8_t *devices, size_t devices_length,
+                        char *out, size_t room, pmb_result *told);
 
 #ifdef __cplusplus
 }

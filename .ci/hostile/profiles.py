@@ -304,7 +304,8 @@ def costs_little(report, run, answer, most, seconds=SECONDS):
 
 
 def describe(program, report, name, text, wanted, most):
-    """`profile` takes or refuses a profile as `show` does. One with a fault it may read twice."""
+    """`profile` takes or refuses a profile as `show` does. One with a fault it may read three times, and
+    the last time it holds nothing of it."""
     answer = program.run_once(["profile"], text)
     run = f"pmb profile of a profile: {name}"
     if wanted == TAKEN:
@@ -312,7 +313,7 @@ def describe(program, report, name, text, wanted, most):
         costs_little(report, run, answer, most)
     else:
         is_so = tells_fault(["profile"], wanted[1], answer)
-        costs_little(report, run, answer, 2 * most, 2 * SECONDS)
+        costs_little(report, run, answer, 2 * most, 3 * SECONDS)
     report.holds(is_so, run, short(wanted), (answer.status, answer.err, answer.out))
 
 

@@ -22,5 +22,5 @@ mod lines;
 mod packet;
 
 pub use fault_line::{FaultLine, numbered_line};
-pub use lines::build;
+pub use lines::{build, build_whole};
 pub use packet::put_event;

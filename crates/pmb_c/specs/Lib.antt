@@ -3,3 +3,4 @@ pub mod Result
 pub mod Explain
 pub mod Whole
 pub mod Recorder
+pub mod Handle

@@ -1,11 +1,12 @@
 -- What C says of a recording, and what is done with it.
-use Rattle.std.specs.Prelude.{◌≡◌, ℕ, ◌==◌, if◌then◌else◌, Option, Some, None, List, length}
-use Rattle.pmb_c.specs.Result.{result_of_put}
+use Rattle.std.specs.Prelude.{◌≡◌, ℕ, ◌==◌, if◌then◌else◌, Option, Some, None, Result, List, length}
+use Rattle.pmb_c.specs.Result.{result_of}
 use Rattle.pmb_c.specs.Whole.{StaysUnchosen}
 use Rattle.pmb_c.specs.declared.recorder.PmbRecorder.{PmbRecorder}
 use Rattle.pmb_c.specs.declared.result.PmbResult.{PmbResult}
 use Rattle.pmb_import.specs.Importing.{importing_of}
-use Rattle.pmb_in_memory.specs.Import.{PutsText}
+use Rattle.pmb_in_memory.specs.Put.{PutsUnder}
+use Rattle.pmb_in_memory.specs.declared.fault.WholeFault.{WholeFault}
 use Rattle.pmb_in_memory.specs.declared.put.Put.{Put}
 use Rattle.pmb_recorder.specs.Recorded.{Makes, Recorded}
 use Rattle.pmb_recorder.specs.declared.source.Source.{Source}
@@ -47,11 +48,11 @@ pub record Names (recorder : PmbRecorder) (name : List ℕ) (recorded : Recorded
   pub bus_is : bus_of recorder.names_bus name ≡ Some bus
   pub makes : Makes source bus (hertz_of recorder.rate) form recorded
 
--- The capture of the recording stands in the room, and what is told says how long it is; or the numbers say nothing,
--- and nothing was done.
+-- The capture of the recording stands in the room, or there was no memory, and what is told says which; or the numbers
+-- say nothing, and nothing was done.
 pub data ImportsInto (recorder : PmbRecorder) (name recording before after : List ℕ) (told : PmbResult) : Type 0 where
-  Imports : (recorded : Recorded) (put : Put) → Names recorder name recorded
-      → PutsText (importing_of recorded) recording before after put → told ≡ result_of_put (length before) put
+  Imports : (recorded : Recorded) (outcome : Result Put WholeFault) → Names recorder name recorded
+      → PutsUnder (importing_of recorded) recording before after outcome → told ≡ result_of (length before) outcome
       → ImportsInto recorder name recording before after told
   Refuses : ((recorded : Recorded) → ¬ (Names recorder name recorded)) → StaysUnchosen before after told
       → ImportsInto recorder name recording before after told

@@ -2,6 +2,7 @@
 use Rattle.std.specs.Prelude.{ℕ, ℤ, pos, negsuc, nat_lt, if◌then◌else◌, Option, Some, None, Result, Ok, Err}
 use Rattle.pmb_keys.specs.declared.fault.FaultKind.{FaultKind}
 use Rattle.pmb_keys.specs.declared.fault.FaultKind.TheVariants as kind
+use Rattle.pmb_places.specs.declared.places.Place.{Place}
 use Rattle.pmb_table.specs.declared.fault.ProfileFault.{ProfileFault}
 use Rattle.pmb_in_memory.specs.declared.fault.WholeFault.{WholeFault}
 use Rattle.pmb_in_memory.specs.declared.fault.WholeFault.TheVariants.{Profile, Memory, Write}
@@ -46,6 +47,8 @@ result_of_status why = record {
       0;
   packets = 0;
   refusals = 0;
+  line = 0;
+  column = 0;
 }
 
 -- the profile has a fault, and this is the length of what is written of it
@@ -58,6 +61,27 @@ result_of_fault fault length = record {
   length = length;
   packets = 0;
   refusals = 0;
+  line = 0;
+  column = 0;
+}
+
+-- a number, or the greatest one of 32 bits where it is greater
+abbrev pub capped_u32 : ℕ → ℕ
+capped_u32 number = if nat_lt number 4294967296 then number else 4294967295
+
+-- the same with a place in the profile's text, if there is one
+abbrev pub result_at : Option Place → PmbResult → PmbResult
+result_at None told = told
+result_at (Some place) told = record {
+  status = told.status;
+  fault = told.fault;
+  device = told.device;
+  command = told.command;
+  length = told.length;
+  packets = told.packets;
+  refusals = told.refusals;
+  line = capped_u32 place.line;
+  column = capped_u32 place.column;
 }
 
 -- a text was written into a room of so many bytes, as far as it fits
@@ -70,6 +94,8 @@ result_of_put room put = record {
   length = put.length;
   packets = put.tally.packets;
   refusals = put.tally.refusals;
+  line = 0;
+  column = 0;
 }
 
 abbrev pub result_of : ℕ → Result Put WholeFault → PmbResult

@@ -8,6 +8,7 @@ ghost use Rattle.pmb_bus.specs.declared.lexer.LexFault.{LexFault};
 ghost use Rattle.pmb_bus.specs.Pec.{pec};
 ghost use Rattle.pmb_command.specs.Commands.{standard_entry};
 ghost use Rattle.pmb_command.specs.StatusBits.{bit_text};
+ghost use Rattle.pmb_firmware.specs.CallStatus.{status_name};
 ghost use Rattle.pmb_firmware.specs.Event.{Ends, Lexes, StaysFaulted};
 ghost use Rattle.pmb_firmware.specs.Format.{named};
 ghost use Rattle.pmb_firmware.specs.Number.{Decodes, Encodes, Parses};
@@ -96,6 +97,15 @@ pub extern "C" fn pmb_bit_name(code: u8, bit: u8, text: &mut [u8], length: &mut 
         ≡ put_some (some_name (bit_text code bit)) text.old }
 {
     pmb_firmware::bit_name(code, bit, text, length)
+}
+
+/// Writes the name that the header has for a status, and a NUL.
+#[unsafe(no_mangle)]
+pub extern "C" fn pmb_status_name(status: i32, text: &mut [u8], length: &mut usize) -> i32
+    ensures { record { status = result; room = text.new; length = length.new }
+        ≡ put_some (some_name (status_name status)) text.old }
+{
+    pmb_firmware::status_name(status, text, length)
 }
 
 // ---- the events of a capture's text

@@ -5,7 +5,7 @@
 //! text ([`firmware`]), with the library's version ([`version`]). Functions that take memory for a
 //! profile, and write to the caller's buffer: `show`, `check`, `build`, `run` and `json` over whole
 //! inputs ([`whole`]), and hints for mistakes in a profile ([`explain`]). And the capture of a whole
-//! recording, for which no memory is taken ([`recording`]).
+//! recording, without a profile ([`recording`]).
 //!
 //! A C caller is checked by nobody, so no export has a premise on values: each is itself the test
 //! of what it is given. What a C type can't say is the header's to say: no pointer is null, and
@@ -22,6 +22,9 @@
 mod choice;
 pub mod explain;
 pub mod firmware;
+pub mod handle;
+pub mod held;
+pub mod profile;
 mod recorder;
 pub mod recording;
 mod result;

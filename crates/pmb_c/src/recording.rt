@@ -9,10 +9,12 @@ use crate::recorder::PmbRecorder;
 use crate::result::PmbResult;
 use pmb_firmware::CallStatus;
 use pmb_in_memory::put_import;
+use std::alloc::Global;
 
-/// Writes the capture of a recording, as `pmb import` does. It takes no memory.
+/// Writes the capture of a recording, as `pmb import` does.
 #[unsafe(no_mangle)]
 pub extern "C" fn pmb_import(
+    alloc: Global,
     recorder: &PmbRecorder,
     bus: &[u8],
     recording: &[u8],
@@ -22,18 +24,24 @@ pub extern "C" fn pmb_import(
     ensures wrote { ImportsInto recorder.now bus.now recording.now room.old room.new told.new }
     ensures length { result ≡ told.new.length }
 {
-    *told = imported(recorder, bus, recording, room);
+    *told = imported(alloc, recorder, bus, recording, room);
     told.length
 }
 
 /// Puts the capture of a recording into the room, and returns what is told of it.
-fn imported(recorder: &PmbRecorder, bus: &[u8], recording: &[u8], room: &mut [u8]) -> PmbResult
+fn imported(
+    alloc: Global,
+    recorder: &PmbRecorder,
+    bus: &[u8],
+    recording: &[u8],
+    room: &mut [u8],
+) -> PmbResult
     ensures { ImportsInto recorder.now bus.now recording.now room.old room.new result }
 {
     match recorder.recorder(bus) {
         Some(recorder) => {
             let size = room.len();
-            PmbResult::of_put(put_import(recorder, recording, room), size)
+            PmbResult::of(put_import(alloc, recorder, recording, room), size)
         }
         None => PmbResult::of_status(CallStatus::BadChoice),
     }

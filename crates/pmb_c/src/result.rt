@@ -3,9 +3,10 @@
 //! Its rows: `tests/rows/captures.txt`, `lines.txt`, `requests.txt`, `json_objects.txt`.
 
 ghost use Rattle.std.specs.Prelude.{◌≡◌, ℤ, negsuc, pos};
-ghost use Rattle.pmb_c.specs.Result.{fault_number, place_of, result_of, result_of_fault, result_of_put, result_of_status};
+ghost use Rattle.pmb_c.specs.Result.{capped_u32, fault_number, place_of, result_at, result_of, result_of_fault, result_of_put, result_of_status};
 
 use pmb_firmware::CallStatus;
+use pmb_hints::Place;
 use pmb_in_memory::{Put, WholeFault};
 use pmb_table::{FaultKind, ProfileFault};
 
@@ -27,6 +28,10 @@ pub struct PmbResult {
     pub packets: u64,
     /// How many refusals there were.
     pub refusals: u64,
+    /// The line of the profile's fault, counted from 1; 0 where no place in its text is told.
+    pub line: u32,
+    /// The column in that line, in bytes counted from 1; 0 where no place is told.
+    pub column: u32,
 }
 
 impl PmbResult {
@@ -55,6 +60,8 @@ impl PmbResult {
             length: 0,
             packets: 0,
             refusals: 0,
+            line: 0,
+            column: 0,
         }
     }
 
@@ -75,6 +82,8 @@ impl PmbResult {
             length: put.length,
             packets: put.tally.packets,
             refusals: put.tally.refusals,
+            line: 0,
+            column: 0,
         }
     }
 
@@ -90,7 +99,32 @@ impl PmbResult {
             length,
             packets: 0,
             refusals: 0,
+            line: 0,
+            column: 0,
         }
+    }
+
+    /// The same, with the place of the fault in the profile's text.
+    pub(crate) fn at(self, place: Option<Place>) -> PmbResult
+        ensures { result ≡ result_at place self }
+    {
+        let mut told = self;
+        if let Some(place) = place {
+            told.line = as_u32(place.line);
+            told.column = as_u32(place.column);
+        }
+        told
+    }
+}
+
+/// A number, or the greatest `u32` where it is greater.
+fn as_u32(number: u64) -> u32
+    ensures { result ≡ capped_u32 number }
+{
+    if number < 4294967296 {
+        number as u32
+    } else {
+        4294967295
     }
 }
 

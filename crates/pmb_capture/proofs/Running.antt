@@ -10,6 +10,7 @@ use Rattle.pmb_io.specs.declared.tally.Tally.{Tally}
 use Rattle.pmb_io.specs.Runs.{Job, Ran}
 use Rattle.pmb_io.specs.Told.{ReaderTold, WriterTold}
 use Rattle.pmb_io.proofs.RunLemmas.{failed_as, ran_as}
+use Rattle.pmb_whole_input.specs.Whole.{Wrote}
 use Rattle.pmb_transaction.specs.Transaction.{TransactionData}
 use Rattle.pmb_capture.specs.declared.capture.Capture.{Capture}
 use Rattle.pmb_capture.specs.Output.{OutputText}
@@ -64,3 +65,20 @@ module _ {O : Type 0} (TextOf : O → OutputText) (StandsBehind : O → List Tra
         (failed_as reader_told writer_told (capture_job start now) first old new
         (writing (TextOf start.account.output) (capture_profile start)) fault
         (λ bytes text written. leaves start bytes text written) ran))
+
+  module _ {W : Type 0} (told : W → WriterTold) (start now : Capture O) (output : OutputText)
+      (profile : List DeviceParts) (same_output : TextOf start.account.output ≡ output)
+      (same_profile : capture_profile start ≡ profile) (input : List ℕ) (old new : W) where
+    -- a capture that was at hand as a whole is written
+    pub capture_wrote : (tally : Tally) → tally ≡ now.account.tally
+        → Wrote told (capture_job start now) input old new tt → Wrote told (writing output profile) input old new tally
+    capture_wrote tally counted wrote =
+        subst (λ (p : List DeviceParts). Wrote told (writing output p) input old new tally) same_profile
+        (subst (λ (o : OutputText). Wrote told (writing o (capture_profile start)) input old new tally) same_output
+        (subst (λ (t : Tally). Wrote told (writing (TextOf start.account.output) (capture_profile start)) input old new
+        t) (sym counted) (record {
+          text = wrote.text;
+          is_text = wrote.is_text;
+          appended = wrote.appended;
+          none_failed = wrote.none_failed;
+        })))

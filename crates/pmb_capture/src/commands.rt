@@ -2,4 +2,5 @@
 
 pub(crate) mod check_capture;
 pub(crate) mod show;
+pub(crate) mod whole;
 mod written;

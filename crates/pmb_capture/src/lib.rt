@@ -2,7 +2,7 @@
 //!
 //! [`show`] writes a line for each packet of a capture, with a note on what it means, and one for
 //! each refusal. [`check_capture`] writes the refusals alone, and how many packets and refusals
-//! there were.
+//! there were. [`show_whole`] and [`check_whole`] do the same of a capture that is at hand as a whole.
 //!
 //! ```rust
 //! let profile = Profile::from_toml(rt.alloc(), SAMPLE.as_bytes())?;
@@ -25,3 +25,4 @@ mod tally_alone;
 
 pub use commands::check_capture::check_capture;
 pub use commands::show::show;
+pub use commands::whole::{check_whole, show_whole};

@@ -34,6 +34,6 @@ pub(crate) fn explain_profile<E: Sink>(
         return report(ToolFault::Memory, err);
     }
     let lines = explanation(alloc, text, fault);
-    let _ = err.write_all(lines.as_str().as_bytes());
+    let _ = err.write_all(lines.text.as_str().as_bytes());
     ExitStatus::BadArguments
 }

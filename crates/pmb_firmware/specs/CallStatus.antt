@@ -1,5 +1,5 @@
--- The numbers that C gets for the status of a call.
-use Rattle.std.specs.Prelude.{ℤ, pos}
+-- The numbers that C gets for the status of a call, and the names that the header has for them.
+use Rattle.std.specs.Prelude.{ℕ, ℤ, pos, negsuc, ◌==◌, if◌then◌else◌, List, Option, Some, None, codes}
 use Rattle.pmb_format.specs.declared.format.RangeFault.TheVariants.{Below, Above}
 use Rattle.pmb_quantity.specs.declared.quantity.QuantityFault.TheVariants.{Empty, BadDigit, ZeroDenominator, TooLarge}
 use Rattle.pmb_value.specs.declared.number_format.WordFault.TheVariants.{NotANumber, NoCode, Off}
@@ -34,3 +34,40 @@ number_of status.BadToken = pos 21
 number_of (status.Word NotANumber) = pos 22
 number_of (status.Word NoCode) = pos 23
 number_of (status.Word Off) = pos 24
+number_of status.Closed = pos 25
+
+-- the name of the status of a number, if it is one
+abbrev pub named : ℕ → Option (List ℕ)
+named number =
+    if number == 0 then Some (codes "PMB_OK")
+    else if number == 1 then Some (codes "PMB_BELOW")
+    else if number == 2 then Some (codes "PMB_ABOVE")
+    else if number == 3 then Some (codes "PMB_BAD_FORMAT")
+    else if number == 4 then Some (codes "PMB_BAD_EXPONENT")
+    else if number == 5 then Some (codes "PMB_ZERO_SLOPE")
+    else if number == 6 then Some (codes "PMB_BAD_SCALE")
+    else if number == 7 then Some (codes "PMB_RELATIVE")
+    else if number == 8 then Some (codes "PMB_VID")
+    else if number == 9 then Some (codes "PMB_IEEE")
+    else if number == 10 then Some (codes "PMB_NO_COEFFICIENTS")
+    else if number == 11 then Some (codes "PMB_EMPTY")
+    else if number == 12 then Some (codes "PMB_BAD_DIGIT")
+    else if number == 13 then Some (codes "PMB_ZERO_DENOMINATOR")
+    else if number == 14 then Some (codes "PMB_TOO_LARGE")
+    else if number == 15 then Some (codes "PMB_NO_NAME")
+    else if number == 16 then Some (codes "PMB_NO_ROOM")
+    else if number == 17 then Some (codes "PMB_BAD_PROFILE")
+    else if number == 18 then Some (codes "PMB_NO_MEMORY")
+    else if number == 19 then Some (codes "PMB_BAD_CHOICE")
+    else if number == 20 then Some (codes "PMB_NO_EVENT")
+    else if number == 21 then Some (codes "PMB_BAD_TOKEN")
+    else if number == 22 then Some (codes "PMB_NOT_A_NUMBER")
+    else if number == 23 then Some (codes "PMB_NO_CODE")
+    else if number == 24 then Some (codes "PMB_OFF")
+    else if number == 25 then Some (codes "PMB_CLOSED")
+    else None
+
+-- .. of a number with a sign
+abbrev pub status_name : ℤ → Option (List ℕ)
+status_name (pos number) = named number
+status_name (negsuc number) = None

@@ -32,6 +32,8 @@ pub enum CallStatus {
     BadToken,
     /// The code has no value in its format.
     Word(WordFault),
+    /// The handle is not open.
+    Closed,
 }
 
 impl CallStatus {
@@ -65,6 +67,7 @@ impl CallStatus {
             CallStatus::Word(WordFault::NotANumber) => 22,
             CallStatus::Word(WordFault::NoCode) => 23,
             CallStatus::Word(WordFault::Off) => 24,
+            CallStatus::Closed => 25,
         }
     }
 }

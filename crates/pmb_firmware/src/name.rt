@@ -1,7 +1,8 @@
-//! The names of commands and of status bits.
+//! The names of commands, of status bits and of the statuses of calls.
 ghost use Rattle.std.specs.Prelude.{◌≡◌, option_map};
 ghost use Rattle.pmb_command.specs.Commands.{standard_entry};
 ghost use Rattle.pmb_command.specs.StatusBits.{bit_text};
+ghost use Rattle.pmb_firmware.specs.CallStatus.{named, status_name};
 ghost use Rattle.pmb_firmware.specs.Room.{put_some, some_name};
 
 use crate::call_status::CallStatus;
@@ -35,6 +36,60 @@ pub fn bit_name(code: u8, bit: u8, text: &mut [u8], length: &mut usize) -> i32
         ≡ put_some (some_name (bit_text code bit)) text.old }
 {
     match pmb_command::bit_name(code, bit) {
+        Some(name) => put(name.as_bytes(), text, length),
+        None => put_none(CallStatus::NoName, length),
+    }
+}
+
+/// The name that the header has for the status of a number, if it is one.
+fn named(number: u32) -> Option<&'static str>
+    ensures { option_map (λ s. s.now) result ≡ named number }
+{
+    match number {
+        0 => Some("PMB_OK"),
+        1 => Some("PMB_BELOW"),
+        2 => Some("PMB_ABOVE"),
+        3 => Some("PMB_BAD_FORMAT"),
+        4 => Some("PMB_BAD_EXPONENT"),
+        5 => Some("PMB_ZERO_SLOPE"),
+        6 => Some("PMB_BAD_SCALE"),
+        7 => Some("PMB_RELATIVE"),
+        8 => Some("PMB_VID"),
+        9 => Some("PMB_IEEE"),
+        10 => Some("PMB_NO_COEFFICIENTS"),
+        11 => Some("PMB_EMPTY"),
+        12 => Some("PMB_BAD_DIGIT"),
+        13 => Some("PMB_ZERO_DENOMINATOR"),
+        14 => Some("PMB_TOO_LARGE"),
+        15 => Some("PMB_NO_NAME"),
+        16 => Some("PMB_NO_ROOM"),
+        17 => Some("PMB_BAD_PROFILE"),
+        18 => Some("PMB_NO_MEMORY"),
+        19 => Some("PMB_BAD_CHOICE"),
+        20 => Some("PMB_NO_EVENT"),
+        21 => Some("PMB_BAD_TOKEN"),
+        22 => Some("PMB_NOT_A_NUMBER"),
+        23 => Some("PMB_NO_CODE"),
+        24 => Some("PMB_OFF"),
+        25 => Some("PMB_CLOSED"),
+        _ => None,
+    }
+}
+
+/// Writes the name that the header has for a status, as `PMB_BAD_FORMAT` of 3. It has 20 characters
+/// at most, and a NUL after it.
+///
+/// `length` is told how many characters the name has. The status is that the number is none of a
+/// status, and then `length` is 0; or that name and NUL don't fit into the room. Then the room stays
+/// as it was.
+pub fn status_name(status: i32, text: &mut [u8], length: &mut usize) -> i32
+    ensures { record { status = result; room = text.new; length = length.new }
+        ≡ put_some (some_name (status_name status)) text.old }
+{
+    if status < 0 {
+        return put_none(CallStatus::NoName, length);
+    }
+    match named(status as u32) {
         Some(name) => put(name.as_bytes(), text, length),
         None => put_none(CallStatus::NoName, length),
     }

@@ -2,10 +2,10 @@
 //!
 //! Its rows: `tests/rows/hints.txt`.
 
+use crate::draft::Draft;
 use crate::forms::parts_of;
 use crate::keyed::Keyed;
 use crate::keys::wrong_type;
-use crate::lines::Hints;
 use crate::values::word;
 use crate::words::{BYTE_BITS, WORD_BITS, Words, is_among};
 use arrayvec::ArrayString;
@@ -16,7 +16,7 @@ use std::fmt::Write;
 const NAME: &str = "a name is 1 to 32 of A to Z, 0 to 9 and _";
 
 /// Writes a unit that is none, if it is one.
-pub(crate) fn unit_hint(keyed: Keyed<'_>, lines: &mut Hints) -> bool {
+pub(crate) fn unit_hint(keyed: Keyed<'_>, lines: &mut Draft) -> bool {
     match keyed.text("unit") {
         Some(text) => !is_unit(text)
             && keyed.rule(
@@ -40,7 +40,7 @@ fn bits_of(keyed: Keyed<'_>) -> Words {
 }
 
 /// Writes that the name of a bit has another type than it needs, if it has.
-pub(crate) fn bits_type(keyed: Keyed<'_>, lines: &mut Hints) -> bool {
+pub(crate) fn bits_type(keyed: Keyed<'_>, lines: &mut Draft) -> bool {
     match keyed.bits() {
         Some(named) => wrong_type(named, bits_of(keyed), lines),
         None => false,
@@ -48,16 +48,17 @@ pub(crate) fn bits_type(keyed: Keyed<'_>, lines: &mut Hints) -> bool {
 }
 
 /// Writes the first key of `bits` that is no bit, if there is one.
-pub(crate) fn bits_hint(keyed: Keyed<'_>, lines: &mut Hints) -> bool {
+pub(crate) fn bits_hint(keyed: Keyed<'_>, lines: &mut Draft) -> bool {
     let Some(named) = keyed.bits() else {
         return false;
     };
     let bits = bits_of(keyed);
     for key in named.table.keys() {
         if !is_among(bits, key.as_str()) {
+            named.stand_at(key.as_str(), lines);
             let last = bits.len().saturating_sub(1);
             let _ = write!(
-                lines,
+                lines.text,
                 "  bits.{}: the keys here are bits, from 0 to {last} without leading zeros\n",
                 word(key.as_str()).as_str()
             );
@@ -68,7 +69,7 @@ pub(crate) fn bits_hint(keyed: Keyed<'_>, lines: &mut Hints) -> bool {
 }
 
 /// Writes what is wrong with a name: that of the command, or one of its bits.
-pub(crate) fn names_hint(keyed: Keyed<'_>, lines: &mut Hints) -> bool {
+pub(crate) fn names_hint(keyed: Keyed<'_>, lines: &mut Draft) -> bool {
     if own_name_hint(keyed, lines) {
         return true;
     }
@@ -79,7 +80,7 @@ pub(crate) fn names_hint(keyed: Keyed<'_>, lines: &mut Hints) -> bool {
 }
 
 /// Writes that the name of a command with a code is none, if it is none.
-fn own_name_hint(keyed: Keyed<'_>, lines: &mut Hints) -> bool {
+fn own_name_hint(keyed: Keyed<'_>, lines: &mut Draft) -> bool {
     match keyed.text("name") {
         Some(text) => keyed.get("code").is_some()
             && !is_name(text)
@@ -89,7 +90,7 @@ fn own_name_hint(keyed: Keyed<'_>, lines: &mut Hints) -> bool {
 }
 
 /// Writes the first bit whose name is none, or that of a bit before it, if there is one.
-fn bit_name_hint(named: Keyed<'_>, bits: Words, lines: &mut Hints) -> bool {
+fn bit_name_hint(named: Keyed<'_>, bits: Words, lines: &mut Draft) -> bool {
     for bit in bits {
         if let Some(text) = named.text(*bit) {
             if !is_name(text) {
@@ -116,7 +117,7 @@ fn bit_with(named: Keyed<'_>, bits: Words, name: &str) -> Option<&'static str> {
 }
 
 /// Writes a bit, its name, and which bit before it has the name.
-fn tell_twice(named: Keyed<'_>, bit: &str, other: &str, lines: &mut Hints) -> bool {
+fn tell_twice(named: Keyed<'_>, bit: &str, other: &str, lines: &mut Draft) -> bool {
     let mut rule = ArrayString::<64>::new();
     let _ = write!(rule, "bit {other} has this name");
     named.rule(bit, rule.as_str(), lines)

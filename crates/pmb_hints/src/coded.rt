@@ -2,8 +2,8 @@
 //!
 //! Its rows: `tests/rows/hints.txt`.
 
+use crate::draft::Draft;
 use crate::keyed::Keyed;
-use crate::lines::Hints;
 use crate::words::likeness;
 use arrayvec::ArrayString;
 use pmb_command::{Name, by_name, standard};
@@ -14,7 +14,7 @@ use toml::{Table, Value};
 type Rule = ArrayString<64>;
 
 /// Writes which device before this one has its address.
-pub(crate) fn address_twice(keyed: Keyed<'_>, lines: &mut Hints) -> bool {
+pub(crate) fn address_twice(keyed: Keyed<'_>, lines: &mut Draft) -> bool {
     let address = keyed.number("address");
     for (place, device) in keyed.before.iter().enumerate() {
         if address_of(device) == address {
@@ -32,7 +32,7 @@ fn address_of(device: &Value) -> Option<i64> {
 }
 
 /// Writes which command before this one has its code.
-pub(crate) fn code_twice(keyed: Keyed<'_>, lines: &mut Hints) -> bool {
+pub(crate) fn code_twice(keyed: Keyed<'_>, lines: &mut Draft) -> bool {
     let code = code_of(keyed.table);
     for (place, command) in keyed.before.iter().enumerate() {
         if is_of_code(command, code) {
@@ -43,7 +43,7 @@ pub(crate) fn code_twice(keyed: Keyed<'_>, lines: &mut Hints) -> bool {
 }
 
 /// Writes the code or the name of a command, and which command has it.
-fn tell_code(keyed: Keyed<'_>, place: usize, lines: &mut Hints) -> bool {
+fn tell_code(keyed: Keyed<'_>, place: usize, lines: &mut Draft) -> bool {
     let mut rule = Rule::new();
     if keyed.get("code").is_some() {
         let _ = write!(rule, "command {place} of this device has this code");
@@ -76,7 +76,7 @@ pub(crate) fn code_of(table: &Table) -> Option<i64> {
 }
 
 /// Writes a name that no standard command has, and the one that may have been meant.
-pub(crate) fn name_hint(keyed: Keyed<'_>, lines: &mut Hints) -> bool {
+pub(crate) fn name_hint(keyed: Keyed<'_>, lines: &mut Draft) -> bool {
     let Some(text) = keyed.text("name") else {
         return false;
     };

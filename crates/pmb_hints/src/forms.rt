@@ -3,8 +3,8 @@
 //! Its rows: `tests/rows/hints.txt`.
 
 use crate::coded::code_of;
+use crate::draft::Draft;
 use crate::keyed::Keyed;
-use crate::lines::Hints;
 use crate::words::is_among;
 use pmb_command::{Entry, Form, Kind, standard};
 use pmb_value::{NumberFormat, VidTable, VoutFormat};
@@ -164,37 +164,44 @@ impl Parts<'_> {
             || self.write == self.read
     }
 
-    /// Whether each of its forms is that of another command, or none.
-    fn keeps(&self, other: &Parts<'_>) -> bool {
-        (self.write == "none" || self.write == other.write)
-            && (self.read == "none" || self.read == other.read)
-            && (self.call == "none" || self.call == other.call)
+    /// The key of its first form that is not that of another command, and not none, if there is one.
+    fn other_form(&self, other: &Parts<'_>) -> Option<&'static str> {
+        if self.write != "none" && self.write != other.write {
+            Some("write")
+        } else if self.read != "none" && self.read != other.read {
+            Some("read")
+        } else if self.call != "none" && self.call != other.call {
+            Some("call")
+        } else {
+            None
+        }
     }
 }
 
 /// Writes which parts of a command do not go together.
-pub(crate) fn form_hint(keyed: Keyed<'_>, lines: &mut Hints) -> bool {
+pub(crate) fn form_hint(keyed: Keyed<'_>, lines: &mut Draft) -> bool {
     match parts_of(keyed) {
-        Some(parts) => ways_hint(&parts, lines)
-            || kept_hint(&parts, lines)
-            || kind_hint(&parts, lines),
+        Some(parts) => ways_hint(keyed, &parts, lines)
+            || kept_hint(keyed, &parts, lines)
+            || kind_hint(keyed, &parts, lines),
         None => false,
     }
 }
 
 /// Writes that a command has no form, or two for one value.
-fn ways_hint(parts: &Parts<'_>, lines: &mut Hints) -> bool {
+fn ways_hint(keyed: Keyed<'_>, parts: &Parts<'_>, lines: &mut Draft) -> bool {
     if !parts.has_form() {
-        let _ = lines.try_push_str(
+        let _ = lines.text.try_push_str(
             "  write, read and call are all \"none\": one of them is needed, and a command with a \
              code has only those that its keys give\n",
         );
         return true;
     }
     if !parts.ways_agree() {
+        keyed.stand_at_first(&["write", "read"], lines);
         let (write, read) = (parts.write, parts.read);
         let _ = write!(
-            lines,
+            lines.text,
             "  write = \"{write}\", read = \"{read}\": these have to be the same, unless write is \
              \"zero\" or one of them is \"none\"\n"
         );
@@ -204,7 +211,7 @@ fn ways_hint(parts: &Parts<'_>, lines: &mut Hints) -> bool {
 }
 
 /// Writes what PAGE, CLEAR_FAULTS, VOUT_MODE, COEFFICIENTS and STATUS_CML keep of the standard.
-fn kept_hint(parts: &Parts<'_>, lines: &mut Hints) -> bool {
+fn kept_hint(keyed: Keyed<'_>, parts: &Parts<'_>, lines: &mut Draft) -> bool {
     let name = match parts.code {
         0x00 => "PAGE",
         0x03 => "CLEAR_FAULTS",
@@ -216,29 +223,37 @@ fn kept_hint(parts: &Parts<'_>, lines: &mut Hints) -> bool {
     let Some(kept) = standard_parts(parts.code) else {
         return false;
     };
-    if !parts.keeps(&kept) {
+    if let Some(key) = parts.other_form(&kept) {
+        keyed.stand_at(key, lines);
         let (write, read, call) = (kept.write, kept.read, kept.call);
         let _ = write!(
-            lines,
+            lines.text,
             "  {name} keeps the standard's forms, or has \"none\" in their place: write = \"{write}\", \
              read = \"{read}\", call = \"{call}\"\n"
         );
         return true;
     }
     if parts.code != 0x7e && parts.kind != "raw" {
+        keyed.stand_at("kind", lines);
         let kind = parts.kind;
-        let _ = write!(lines, "  kind = \"{kind}\": {name} is always \"raw\"\n");
+        let _ = write!(
+            lines.text,
+            "  kind = \"{kind}\": {name} is always \"raw\"\n"
+        );
         return true;
     }
     if parts.code == 0x00 && parts.paged {
-        let _ = lines.try_push_str("  paged = true: PAGE has one value for all pages\n");
+        keyed.stand_at("paged", lines);
+        let _ = lines
+            .text
+            .try_push_str("  paged = true: PAGE has one value for all pages\n");
         return true;
     }
     false
 }
 
 /// Writes a form that its kind can't have.
-fn kind_hint(parts: &Parts<'_>, lines: &mut Hints) -> bool {
+fn kind_hint(keyed: Keyed<'_>, parts: &Parts<'_>, lines: &mut Draft) -> bool {
     let (key, form) = parts.value_form();
     let kind = parts.kind;
     let needed = match kind {
@@ -246,8 +261,9 @@ fn kind_hint(parts: &Parts<'_>, lines: &mut Hints) -> bool {
         "status" => "status bits are \"one\" or \"two\" bytes",
         _ => "such a number has \"two\" bytes",
     };
+    keyed.stand_at_first(&["kind", key], lines);
     let _ = write!(
-        lines,
+        lines.text,
         "  kind = \"{kind}\", {key} = \"{form}\": {needed}, and kind = \"raw\" goes with each form\n"
     );
     true

@@ -2,9 +2,9 @@
 //!
 //! Its rows: `tests/rows/hints.txt`.
 
+use crate::draft::Draft;
 use crate::forms::{Parts, parts_of};
 use crate::keyed::Keyed;
-use crate::lines::Hints;
 use crate::lists::count_of_pages;
 use arrayvec::ArrayString;
 use std::fmt::Write;
@@ -14,7 +14,7 @@ use toml::Value;
 type Rule = ArrayString<96>;
 
 /// Writes what is wrong with what a command begins with.
-pub(crate) fn initial_hint(keyed: Keyed<'_>, lines: &mut Hints) -> bool {
+pub(crate) fn initial_hint(keyed: Keyed<'_>, lines: &mut Draft) -> bool {
     let Some(parts) = parts_of(keyed) else {
         return false;
     };
@@ -39,7 +39,7 @@ pub(crate) fn initial_hint(keyed: Keyed<'_>, lines: &mut Hints) -> bool {
 }
 
 /// Writes what is wrong with a text of bytes.
-fn text_hint(keyed: Keyed<'_>, form: &str, lines: &mut Hints) -> bool {
+fn text_hint(keyed: Keyed<'_>, form: &str, lines: &mut Draft) -> bool {
     let Some(text) = keyed.text("initial") else {
         return false;
     };
@@ -51,7 +51,7 @@ fn text_hint(keyed: Keyed<'_>, form: &str, lines: &mut Hints) -> bool {
 
 /// Writes what is wrong with a list of such texts: that the command has one value for all pages, how
 /// many there are, or the first that is wrong.
-fn items_hint(keyed: Keyed<'_>, parts: &Parts<'_>, items: &[Value], lines: &mut Hints) -> bool {
+fn items_hint(keyed: Keyed<'_>, parts: &Parts<'_>, items: &[Value], lines: &mut Draft) -> bool {
     if !parts.paged {
         return keyed.rule("initial", "only a paged command may have an array", lines);
     }

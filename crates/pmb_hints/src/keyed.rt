@@ -1,14 +1,16 @@
 //! A table of a profile, and where it stands in the text.
 
-use crate::lines::Hints;
-use crate::spelling::spelled;
+use crate::draft::Draft;
 use crate::values::{Shown, shown};
+use crate::walk::{Lost, Path, Step, number_of, number_of_key, text_from};
+use std::alloc::Global;
 use std::fmt::Write;
 use toml::{Table, Value};
 
 /// Where a table stands in a profile's text.
 #[derive(Clone, Copy)]
 pub(crate) struct TablePlace<'a> {
+    pub(crate) alloc: Global,
     pub(crate) text: &'a str,
     /// The number of its device, from 0, if it is not the whole.
     pub(crate) device: Option<usize>,
@@ -29,6 +31,53 @@ impl<'a> TablePlace<'a> {
             table,
             before,
         }
+    }
+
+    /// The steps to this place, and from there to a table in it, to a key and to an item of its array.
+    fn path<'k>(
+        self,
+        table: Option<&'static str>,
+        key: Option<&'k str>,
+        item: Option<usize>,
+    ) -> Path<'k> {
+        let mut path = Path::new();
+        if let Some(device) = self.device {
+            let _ = path.try_push(Step::Key("device"));
+            let _ = path.try_push(Step::Item(device));
+        }
+        if let Some(command) = self.command {
+            let _ = path.try_push(Step::Key("command"));
+            let _ = path.try_push(Step::Item(command));
+        }
+        if let Some(table) = table {
+            let _ = path.try_push(Step::Key(table));
+        }
+        if let Some(key) = key {
+            let _ = path.try_push(Step::Key(key));
+        }
+        if let Some(item) = item {
+            let _ = path.try_push(Step::Item(item));
+        }
+        path
+    }
+
+    /// The text from such a place on.
+    fn text_from(
+        self,
+        table: Option<&'static str>,
+        key: Option<&str>,
+        item: Option<usize>,
+    ) -> Result<&'a str, Lost> {
+        text_from(
+            self.alloc,
+            self.text,
+            self.path(table, key, item).as_slice(),
+        )
+    }
+
+    /// The fault is what is at this place.
+    pub(crate) fn stand(self, lines: &mut Draft) {
+        lines.stand(self.text, self.text_from(None, None, None));
     }
 }
 
@@ -98,38 +147,82 @@ impl<'a> Keyed<'a> {
         Some(self.get(key)?.as_array()?.as_slice())
     }
 
-    /// A value as it is shown: a number as it stands in the text if it is found there.
-    fn shown(&self, key: &str, value: &Value) -> Shown {
-        if let Some(number) = value.as_integer() {
-            if let Some(found) = spelled(self.place, key, number) {
-                return found;
+    /// The text from where this table begins: its header, or its key, or its value in an array. Or from a
+    /// key of it on, or from an item of the key's array.
+    fn text_from(&self, key: Option<&str>, item: Option<usize>) -> Result<&'a str, Lost> {
+        self.place
+            .text_from(self.prefix.strip_suffix("."), key, item)
+    }
+
+    /// The fault is in this table, if nothing says where.
+    pub(crate) fn stand(&self, lines: &mut Draft) {
+        if lines.at.is_none() {
+            lines.stand(self.place.text, self.text_from(None, None));
+        }
+    }
+
+    /// The fault is at a key.
+    pub(crate) fn stand_at(&self, key: &str, lines: &mut Draft) {
+        lines.stand(self.place.text, self.text_from(Some(key), None));
+    }
+
+    /// The fault is at the first of some keys that is there.
+    pub(crate) fn stand_at_first(&self, keys: &[&str], lines: &mut Draft) {
+        for key in keys {
+            if self.get(*key).is_some() {
+                self.stand_at(*key, lines);
+                return;
             }
         }
-        shown(value)
+    }
+
+    /// The fault is at an item of a key's array.
+    pub(crate) fn stand_at_item(&self, key: &str, number: usize, lines: &mut Draft) {
+        lines.stand(self.place.text, self.text_from(Some(key), Some(number)));
     }
 
     /// Writes a key, its value and a rule on a line if the key is there, and returns whether it is.
-    pub(crate) fn rule(&self, key: &str, rule: &str, lines: &mut Hints) -> bool {
+    pub(crate) fn rule(&self, key: &str, rule: &str, lines: &mut Draft) -> bool {
         let Some(value) = self.table.get(key) else {
             return false;
         };
-        let shown = self.shown(key, value);
+        let from = self.text_from(Some(key), None);
+        lines.stand(self.place.text, from);
+        let shown = match (from, value.as_integer()) {
+            (Ok(text), Some(number)) => lines.spelled(
+                number_of_key(self.place.alloc, text, number),
+                value,
+            ),
+            _ => shown(value),
+        };
         let prefix = self.prefix;
-        let _ = write!(lines, "  {prefix}{key} = {}: {rule}\n", shown.as_str());
+        let _ = write!(lines.text, "  {prefix}{key} = {}: {rule}\n", shown.as_str());
         true
     }
 
     /// Writes an item of a key's array and a rule on a line if the item is there, and returns whether it
     /// is.
-    pub(crate) fn item_rule(&self, key: &str, place: usize, rule: &str, lines: &mut Hints) -> bool {
+    pub(crate) fn item_rule(&self, key: &str, place: usize, rule: &str, lines: &mut Draft) -> bool {
         let Some(items) = self.items(key) else {
             return false;
         };
         let Some(item) = items.get(place) else {
             return false;
         };
-        let shown = shown(item);
-        let _ = write!(lines, "  {key}[{place}] = {}: {rule}\n", shown.as_str());
+        let from = self.text_from(Some(key), Some(place));
+        lines.stand(self.place.text, from);
+        let shown = match (from, item.as_integer()) {
+            (Ok(text), Some(number)) => lines.spelled(
+                number_of(self.place.alloc, text, number),
+                item,
+            ),
+            _ => shown(item),
+        };
+        let _ = write!(
+            lines.text,
+            "  {key}[{place}] = {}: {rule}\n",
+            shown.as_str()
+        );
         true
     }
 }

@@ -2,8 +2,8 @@
 //!
 //! Its rows: `tests/rows/hints.txt`.
 
+use crate::draft::Draft;
 use crate::keyed::Keyed;
-use crate::lines::Hints;
 use crate::values::word;
 use crate::words::{
     COMMAND, DEVICE, Words, example_of, is_among, items_of, other_types_of, similar, type_of,
@@ -13,10 +13,16 @@ use std::fmt::Write;
 use toml::Value;
 
 /// Writes the first key that a table may not have, if there is one.
-pub(crate) fn unknown_key(keyed: Keyed<'_>, keys: Words, lines: &mut Hints) -> bool {
+pub(crate) fn unknown_key(keyed: Keyed<'_>, keys: Words, lines: &mut Draft) -> bool {
     for key in keyed.table.keys() {
         if !is_among(keys, key.as_str()) {
-            let _ = write!(lines, "  {}{}: ", keyed.prefix, word(key.as_str()).as_str());
+            keyed.stand_at(key.as_str(), lines);
+            let _ = write!(
+                lines.text,
+                "  {}{}: ",
+                keyed.prefix,
+                word(key.as_str()).as_str()
+            );
             tell_unknown(key.as_str(), keys, lines);
             return true;
         }
@@ -25,37 +31,37 @@ pub(crate) fn unknown_key(keyed: Keyed<'_>, keys: Words, lines: &mut Hints) -> b
 }
 
 /// Writes of an unknown key which one may have been meant, where it belongs, or which there are.
-fn tell_unknown(text: &str, keys: Words, lines: &mut Hints) {
+fn tell_unknown(text: &str, keys: Words, lines: &mut Draft) {
     if text == "ignore" {
-        let _ = lines.try_push_str(
+        let _ = lines.text.try_push_str(
             "a key of the whole profile, so it belongs before the first [[device]]\n",
         );
     } else if is_among(DEVICE, text) {
-        let _ = lines.try_push_str(
+        let _ = lines.text.try_push_str(
             "a key of a device, so it belongs between its [[device]] and the next header\n",
         );
     } else if is_among(COMMAND, text) {
-        let _ = lines.try_push_str(
+        let _ = lines.text.try_push_str(
             "a key of a command, so it belongs after a line [[device.command]]\n",
         );
     } else if let Some(meant) = similar(text, keys) {
-        let _ = write!(lines, "did you mean {meant}?\n");
+        let _ = write!(lines.text, "did you mean {meant}?\n");
     } else {
         let there = if keys.len() == 1 {
             "the only key here is"
         } else {
             "the keys here are"
         };
-        let _ = lines.try_push_str(there);
+        let _ = lines.text.try_push_str(there);
         for key in keys {
-            let _ = write!(lines, " {key}");
+            let _ = write!(lines.text, " {key}");
         }
-        let _ = lines.try_push_str("\n");
+        let _ = lines.text.try_push_str("\n");
     }
 }
 
 /// Writes the first key whose value has another type than it needs, if there is one.
-pub(crate) fn wrong_type(keyed: Keyed<'_>, keys: Words, lines: &mut Hints) -> bool {
+pub(crate) fn wrong_type(keyed: Keyed<'_>, keys: Words, lines: &mut Draft) -> bool {
     for key in keys {
         if let Some(value) = keyed.get(*key) {
             if is_wrong(keyed, key, value, lines) {
@@ -67,7 +73,7 @@ pub(crate) fn wrong_type(keyed: Keyed<'_>, keys: Words, lines: &mut Hints) -> bo
 }
 
 /// Writes a value of another type than its key needs, if it is one.
-fn is_wrong(keyed: Keyed<'_>, key: &str, value: &Value, lines: &mut Hints) -> bool {
+fn is_wrong(keyed: Keyed<'_>, key: &str, value: &Value, lines: &mut Draft) -> bool {
     if let (Some(needed), Some(items)) = (items_of(key), value.as_array()) {
         return wrong_item(keyed, key, items.as_slice(), needed, lines);
     }
@@ -86,7 +92,7 @@ fn wrong_item(
     key: &str,
     items: &[Value],
     needed: &str,
-    lines: &mut Hints,
+    lines: &mut Draft,
 ) -> bool {
     for (place, item) in items.iter().enumerate() {
         let found = item.type_str();
@@ -122,12 +128,12 @@ fn with_article(name: &str) -> ArrayString<16> {
 }
 
 /// Writes the first of some keys that is not there, if there is one, with a value.
-pub(crate) fn missing_key(keyed: Keyed<'_>, needed: Words, lines: &mut Hints) -> bool {
+pub(crate) fn missing_key(keyed: Keyed<'_>, needed: Words, lines: &mut Draft) -> bool {
     for key in needed {
         if keyed.get(*key).is_none() {
             let (prefix, example) = (keyed.prefix, example_of(key));
             let _ = write!(
-                lines,
+                lines.text,
                 "  {prefix}{key} is missing, such as {prefix}{key} = {example}\n"
             );
             return true;
@@ -137,19 +143,22 @@ pub(crate) fn missing_key(keyed: Keyed<'_>, needed: Words, lines: &mut Hints) ->
 }
 
 /// Writes a line if a key is there and its value is no array.
-pub(crate) fn no_array(keyed: Keyed<'_>, key: &str, line: &str, lines: &mut Hints) -> bool {
+pub(crate) fn no_array(keyed: Keyed<'_>, key: &str, line: &str, lines: &mut Draft) -> bool {
     match keyed.get(key) {
-        Some(value) => value.as_array().is_none() && lines.try_push_str(line).is_ok(),
-        None => false,
+        Some(value) if value.as_array().is_none() => {
+            keyed.stand_at(key, lines);
+            lines.text.try_push_str(line).is_ok()
+        }
+        _ => false,
     }
 }
 
 /// Writes that a command has neither a code nor a name, if it has none.
-pub(crate) fn missing_code(keyed: Keyed<'_>, lines: &mut Hints) -> bool {
+pub(crate) fn missing_code(keyed: Keyed<'_>, lines: &mut Draft) -> bool {
     if keyed.get("code").is_some() || keyed.get("name").is_some() {
         return false;
     }
-    let _ = lines.try_push_str(
+    let _ = lines.text.try_push_str(
         "  code or name is missing: code = 0xd0 is a command of the part's own, and name = \
          \"READ_VIN\" one of the standard\n",
     );

@@ -2,8 +2,8 @@
 //!
 //! Its rows: `tests/rows/hints.txt`.
 
+use crate::draft::Draft;
 use crate::keyed::Keyed;
-use crate::lines::Hints;
 use arrayvec::ArrayString;
 use std::fmt::Write;
 use toml::Value;
@@ -24,7 +24,7 @@ fn first_over(keyed: Keyed<'_>, key: &str, most: i64) -> Option<usize> {
 }
 
 /// Writes that a key's array has not an item for each page of the device, if it has not.
-pub(crate) fn count_of_pages(keyed: Keyed<'_>, key: &str, lines: &mut Hints) -> bool {
+pub(crate) fn count_of_pages(keyed: Keyed<'_>, key: &str, lines: &mut Draft) -> bool {
     let Some(items) = keyed.items(key) else {
         return false;
     };
@@ -41,7 +41,7 @@ pub(crate) fn count_of_pages(keyed: Keyed<'_>, key: &str, lines: &mut Hints) -> 
 }
 
 /// Writes what is wrong with a list of VOUT_MODE: an item that is no byte, or how many there are.
-pub(crate) fn modes_hint(keyed: Keyed<'_>, lines: &mut Hints) -> bool {
+pub(crate) fn modes_hint(keyed: Keyed<'_>, lines: &mut Draft) -> bool {
     if let Some(place) = first_over(keyed, "vout_mode", 255) {
         let rule = "a number from 0 to 255 is needed";
         return keyed.item_rule("vout_mode", place, rule, lines);
@@ -51,13 +51,13 @@ pub(crate) fn modes_hint(keyed: Keyed<'_>, lines: &mut Hints) -> bool {
 
 /// Writes that the items of a list of VOUT_MODE differ while it has one value for all pages, if there is
 /// a list. All other values of the device are looked at before.
-pub(crate) fn one_mode_hint(keyed: Keyed<'_>, lines: &mut Hints) -> bool {
+pub(crate) fn one_mode_hint(keyed: Keyed<'_>, lines: &mut Draft) -> bool {
     let rule = "the items have to be the same, since VOUT_MODE is not paged";
     keyed.items("vout_mode").is_some() && keyed.rule("vout_mode", rule, lines)
 }
 
 /// Writes an ignored address that is none of 7 bits, if there is one.
-pub(crate) fn ignored_hint(keyed: Keyed<'_>, lines: &mut Hints) -> bool {
+pub(crate) fn ignored_hint(keyed: Keyed<'_>, lines: &mut Draft) -> bool {
     let rule = "an address of 7 bits is needed, from 0 to 127";
     match first_over(keyed, "ignore", 127) {
         Some(place) => keyed.item_rule("ignore", place, rule, lines),
@@ -66,7 +66,7 @@ pub(crate) fn ignored_hint(keyed: Keyed<'_>, lines: &mut Hints) -> bool {
 }
 
 /// Writes that the address of a device is ignored, if it is.
-pub(crate) fn address_ignored(keyed: Keyed<'_>, lines: &mut Hints) -> bool {
+pub(crate) fn address_ignored(keyed: Keyed<'_>, lines: &mut Draft) -> bool {
     let Some(address) = keyed.number("address") else {
         return false;
     };

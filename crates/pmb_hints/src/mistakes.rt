@@ -7,11 +7,11 @@
 
 use crate::bits::{bits_hint, bits_type, names_hint, unit_hint};
 use crate::coded::{address_twice, code_twice, name_hint};
+use crate::draft::Draft;
 use crate::forms::{form_hint, is_of_kind};
 use crate::initial::initial_hint;
 use crate::keyed::Keyed;
 use crate::keys::{missing_code, missing_key, no_array, unknown_key, wrong_type};
-use crate::lines::Hints;
 use crate::lists::{address_ignored, ignored_hint, modes_hint, one_mode_hint};
 use crate::numbers::{address_hint, many_hint, out_of_range, unknown_word};
 use crate::vid::{kind_of_table, vid_hint, vid_type};
@@ -301,7 +301,7 @@ fn rows_of_command(what: FaultKind) -> &'static [Mistake] {
 
 impl Mistake {
     /// Writes the mistake if the keys have it, and returns whether they do.
-    fn is_written(self, keyed: Keyed<'_>, lines: &mut Hints) -> bool {
+    fn is_written(self, keyed: Keyed<'_>, lines: &mut Draft) -> bool {
         match self {
             Mistake::UnknownKey(keys) => unknown_key(keyed, keys, lines),
             Mistake::MissingKey(keys) => missing_key(keyed, keys, lines),
@@ -326,7 +326,7 @@ impl Mistake {
     }
 
     /// The same for the mistakes that have a function of their own.
-    fn is_found(self, keyed: Keyed<'_>, lines: &mut Hints) -> bool {
+    fn is_found(self, keyed: Keyed<'_>, lines: &mut Draft) -> bool {
         match self {
             Mistake::NoCode => missing_code(keyed, lines),
             Mistake::TooManyDevices => many_hint(keyed, lines),
@@ -348,16 +348,17 @@ impl Mistake {
             Mistake::BitsType => bits_type(keyed, lines),
             Mistake::Bits => bits_hint(keyed, lines),
             Mistake::Names => names_hint(keyed, lines),
-            Mistake::Always(line) => lines.try_push_str(line).is_ok(),
+            Mistake::Always(line) => lines.text.try_push_str(line).is_ok(),
             _ => false,
         }
     }
 }
 
 /// Writes the first of some mistakes that the keys have, and returns whether there is one.
-fn first_of(rows: &[Mistake], keyed: Keyed<'_>, lines: &mut Hints) -> bool {
+fn first_of(rows: &[Mistake], keyed: Keyed<'_>, lines: &mut Draft) -> bool {
     for mistake in rows {
         if mistake.is_written(keyed, lines) {
+            keyed.stand(lines);
             return true;
         }
     }
@@ -365,12 +366,12 @@ fn first_of(rows: &[Mistake], keyed: Keyed<'_>, lines: &mut Hints) -> bool {
 }
 
 /// Hints for a fault outside of all devices.
-pub(crate) fn top_hint(keyed: Keyed<'_>, what: FaultKind, lines: &mut Hints) {
+pub(crate) fn top_hint(keyed: Keyed<'_>, what: FaultKind, lines: &mut Draft) {
     let _ = first_of(rows_of_top(what), keyed, lines);
 }
 
 /// Hints for a fault of a device, outside of its commands.
-pub(crate) fn device_hint(keyed: Keyed<'_>, what: FaultKind, lines: &mut Hints) {
+pub(crate) fn device_hint(keyed: Keyed<'_>, what: FaultKind, lines: &mut Draft) {
     if first_of(rows_of_device(what), keyed, lines) {
         return;
     }
@@ -385,6 +386,6 @@ pub(crate) fn device_hint(keyed: Keyed<'_>, what: FaultKind, lines: &mut Hints) 
 }
 
 /// Hints for a fault of a command.
-pub(crate) fn command_hint(keyed: Keyed<'_>, what: FaultKind, lines: &mut Hints) {
+pub(crate) fn command_hint(keyed: Keyed<'_>, what: FaultKind, lines: &mut Draft) {
     let _ = first_of(rows_of_command(what), keyed, lines);
 }

@@ -2,8 +2,8 @@
 //!
 //! Its rows: `tests/rows/hints.txt`.
 
+use crate::draft::Draft;
 use crate::keyed::Keyed;
-use crate::lines::Hints;
 use crate::words::{VID, Words, is_among, likeness, similar};
 use arrayvec::ArrayString;
 use std::fmt::Write;
@@ -17,7 +17,7 @@ pub(crate) fn out_of_range(
     key: &str,
     least: i64,
     most: i64,
-    lines: &mut Hints,
+    lines: &mut Draft,
 ) -> bool {
     let Some(number) = keyed.number(key) else {
         return false;
@@ -32,7 +32,7 @@ pub(crate) fn out_of_range(
 
 /// Writes the value of a key whose word is none of some, if it is, and the one that may have been
 /// meant.
-pub(crate) fn unknown_word(keyed: Keyed<'_>, key: &str, words: Words, lines: &mut Hints) -> bool {
+pub(crate) fn unknown_word(keyed: Keyed<'_>, key: &str, words: Words, lines: &mut Draft) -> bool {
     let Some(text) = keyed.text(key) else {
         return false;
     };
@@ -79,17 +79,21 @@ pub(crate) fn unknown_rule(text: &str, words: Words) -> Option<Rule> {
 }
 
 /// Writes how many devices there are, where they are too many.
-pub(crate) fn many_hint(keyed: Keyed<'_>, lines: &mut Hints) -> bool {
+pub(crate) fn many_hint(keyed: Keyed<'_>, lines: &mut Draft) -> bool {
     let Some(devices) = keyed.items("device") else {
         return false;
     };
     let count = devices.len();
-    let _ = write!(lines, "  device: there are {count}, and 64 are the most\n");
+    keyed.stand_at_item("device", 64, lines);
+    let _ = write!(
+        lines.text,
+        "  device: there are {count}, and 64 are the most\n"
+    );
     true
 }
 
 /// Writes an address that no device may have, and the one of 7 bits, if it has 8.
-pub(crate) fn address_hint(keyed: Keyed<'_>, lines: &mut Hints) -> bool {
+pub(crate) fn address_hint(keyed: Keyed<'_>, lines: &mut Draft) -> bool {
     let Some(number) = keyed.number("address") else {
         return false;
     };
@@ -101,7 +105,7 @@ pub(crate) fn address_hint(keyed: Keyed<'_>, lines: &mut Hints) -> bool {
     if number >= 0x78 && number <= 0xef {
         let seven = number / 2;
         let _ = write!(
-            lines,
+            lines.text,
             "  0x{number:02x} is the 8-bit form of {seven:02x}h: address = 0x{seven:02x}\n"
         );
     }

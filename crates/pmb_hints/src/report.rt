@@ -2,10 +2,12 @@
 //!
 //! Its rows: `tests/rows/hints.txt`.
 
-ghost use Rattle.std.specs.Prelude.{◌≢◌, []};
+ghost use Rattle.std.specs.Prelude.{◌≢◌, [], IfSome};
+ghost use Rattle.pmb_hints.specs.Place.{IsPlaceIn};
 
 use crate::lines::hints;
 use arrayvec::ArrayString;
+use pmb_places::Place;
 use pmb_table::ProfileFault;
 use std::alloc::Global;
 use std::fmt::Write;
@@ -13,8 +15,14 @@ use std::fmt::Write;
 /// The text of a fault.
 pub type FaultText = ArrayString<96>;
 
-/// A fault with its hints.
-pub type Explanation = ArrayString<2048>;
+/// A fault with its hints, and where it is.
+#[derive(Drop)]
+pub struct FaultReport {
+    /// The line of the fault, and the lines that help.
+    pub text: ArrayString<2048>,
+    /// The place that the hints tell, if they tell one.
+    pub place: Option<Place>,
+}
 
 /// A fault as one line: its name, and its device and its command where it has them.
 pub fn fault_text(fault: ProfileFault) -> FaultText {
@@ -31,13 +39,18 @@ pub fn fault_text(fault: ProfileFault) -> FaultText {
 }
 
 /// What `pmb profile` reports of a fault of the profile in `text`: the fault, and the lines that help.
-pub fn explanation(alloc: Global, text: &[u8], fault: ProfileFault) -> Explanation
+pub fn explanation(alloc: Global, text: &[u8], fault: ProfileFault) -> FaultReport
     // Some text is there for each fault.
-    ensures { result.bytes ≢ [] }
+    ensures some { result.text.bytes ≢ [] }
+    ensures place { IfSome result.place (IsPlaceIn text.now) }
 {
-    let mut lines = Explanation::new();
+    let hints = hints(alloc, text, fault);
+    let mut lines = ArrayString::new();
     let _ = lines.try_push_str("pmb: ");
     let _ = lines.try_push_str(fault_text(fault).as_str());
-    let _ = lines.try_push_str(hints(alloc, text, fault).as_str());
-    lines
+    let _ = lines.try_push_str(hints.lines.as_str());
+    FaultReport {
+        text: lines,
+        place: hints.place,
+    }
 }

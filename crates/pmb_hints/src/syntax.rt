@@ -2,7 +2,7 @@
 //!
 //! Its rows: `tests/rows/hints.txt`.
 
-use crate::lines::Hints;
+use crate::draft::Draft;
 use std::fmt::Write;
 use toml::de::Error;
 
@@ -12,37 +12,23 @@ const FIRST_WORDS: [&str; 11] = [
 ];
 
 /// What the reader of TOML says of a text, or that it is a capture or lines without their profile.
-pub(crate) fn syntax_hint(text: &str, error: &Error, lines: &mut Hints) {
+pub(crate) fn syntax_hint(text: &str, error: &Error, lines: &mut Draft) {
     let Some(span) = error.span() else {
         return;
     };
-    let line = line_at(text.as_bytes(), span.start);
-    let _ = write!(lines, "  line {line}: {}\n", error.message());
+    lines.at = Some(span.start);
+    let _ = write!(lines.text, "  {}\n", error.message());
     if is_matter(text) {
-        let _ = lines.try_push_str(
+        let _ = lines.text.try_push_str(
             "  This looks like a capture or lines: a profile and a line %% come first, or --sample.\n",
         );
     }
 }
 
 /// Where a text stops to be UTF-8.
-pub(crate) fn utf8_hint(text: &[u8], place: usize, lines: &mut Hints) {
-    let line = line_at(text, place);
-    let _ = write!(lines, "  line {line}: not UTF-8\n");
-}
-
-/// The number of the line, from 1, that a place of a text is in.
-fn line_at(text: &[u8], place: usize) -> usize {
-    let mut line: usize = 1;
-    for i in 0..text.len() {
-        if i >= place {
-            return line;
-        }
-        if text[i] == b'\n' {
-            line = line.saturating_add(1);
-        }
-    }
-    line
+pub(crate) fn utf8_hint(place: usize, lines: &mut Draft) {
+    lines.at = Some(place);
+    let _ = lines.text.try_push_str("  not UTF-8\n");
 }
 
 /// Whether the first line of a text that is not blank and no comment begins as a capture or lines do.

@@ -11,6 +11,8 @@
 #![tactic(auto)]
 
 mod recording;
+mod whole;
 
 pub use pmb_recorder::{AddressForm, Rate, Recorder, RecorderFault, Source as RecordingSource};
 pub use recording::import;
+pub use whole::import_whole;

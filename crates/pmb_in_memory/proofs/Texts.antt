@@ -11,7 +11,7 @@ use Rattle.pmb_telling.specs.Text.{WritesTold}
 use Rattle.pmb_scan.specs.declared.after_bad_token.AfterBadToken.{AfterBadToken}
 use Rattle.pmb_run.specs.Lines.{RunsInput, running}
 use Rattle.pmb_fact_stream.specs.Choice.{ChoiceData}
-use Rattle.pmb_in_memory.specs.Whole.{IsText}
+use Rattle.pmb_whole_input.specs.Whole.{IsText}
 
 module _ (devices : List DeviceParts) (input text : List ℕ) (tally : Tally) where
   pub shown : IsText (showing devices) tally input text → Shows devices input text tally

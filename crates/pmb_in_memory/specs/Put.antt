@@ -5,8 +5,9 @@ use Rattle.pmb_io.specs.Runs.{Job}
 use Rattle.pmb_io.specs.declared.tally.Tally.{Tally}
 use Rattle.pmb_table.specs.Profile.{ProfileParts}
 use Rattle.pmb_in_memory.specs.Laid.{laid}
+use Rattle.pmb_in_memory.specs.Import.{PutsText}
 use Rattle.pmb_in_memory.specs.Profile.{HasBus, HasFault}
-use Rattle.pmb_in_memory.specs.Whole.{IsText}
+use Rattle.pmb_whole_input.specs.Whole.{IsText}
 use Rattle.pmb_in_memory.specs.declared.fault.WholeFault.{WholeFault}
 use Rattle.pmb_in_memory.specs.declared.fault.WholeFault.TheVariants.{Profile, Memory, Write}
 use Rattle.pmb_in_memory.specs.declared.put.Put.{Put}
@@ -33,3 +34,10 @@ Puts job profile input before after (Err Write) = ⊥
 abbrev pub put_of : ℕ → Result Tally WholeFault → Result Put WholeFault
 put_of length (Ok tally) = Ok (record { tally = tally; length = length })
 put_of length (Err fault) = Err fault
+
+-- The same where there is no profile's text, as under a profile that was read before, or of a recording.
+abbrev pub PutsUnder : Job Tally → List ℕ → List ℕ → List ℕ → Result Put WholeFault → Type 0
+PutsUnder job input before after (Ok put) = PutsText job input before after put
+PutsUnder job input before after (Err (Profile fault)) = ⊥
+PutsUnder job input before after (Err Memory) = after ≡ before
+PutsUnder job input before after (Err Write) = ⊥

@@ -13,7 +13,7 @@ use pmb_table::{FaultKind, ProfileFault};
 pub enum WholeFault {
     /// The profile's text has this fault, which is not `OutOfMemory`. Nothing was written.
     Profile(ProfileFault),
-    /// There was no memory for the profile or for the devices of `run`. Nothing was written.
+    /// There was no memory. Nothing was written.
     Memory,
     /// The writer failed. It is not said how much of the text went out.
     Write,

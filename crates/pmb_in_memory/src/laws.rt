@@ -8,7 +8,7 @@ ghost use Rattle.pmb_telling.specs.Tell.{telling_job};
 ghost use Rattle.pmb_scan.specs.declared.after_bad_token.AfterBadToken.{AfterBadToken};
 ghost use Rattle.pmb_fact_stream.specs.Choice.{ChoiceData};
 ghost use Rattle.pmb_table.specs.Profile.{ProfileParts};
-ghost use Rattle.pmb_in_memory.specs.Whole.{IsText};
+ghost use Rattle.pmb_whole_input.specs.Whole.{IsText};
 ghost use Rattle.pmb_in_memory.specs.MemoryTask.{working};
 ghost use Rattle.pmb_in_memory.specs.declared.memory_task.MemoryTask.{MemoryTask};
 

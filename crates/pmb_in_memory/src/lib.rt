@@ -3,8 +3,9 @@
 //! [`write_whole`] does what `show`, `check`, `build` and `run` do, and [`write_json`] what `json`
 //! does, by the same functions. The profile and the input are at hand as a whole, so that nothing is
 //! read, and no read can fail. [`put_whole`] and [`put_json`] put the text into a buffer of the caller,
-//! and return its length also where it doesn't fit. [`write_import`] and [`put_import`] do what
-//! `import` does with a recording, which needs no profile.
+//! and return its length also where it doesn't fit; [`put_whole_under`] and [`put_json_under`] do so under
+//! a profile that was read before. [`put_import`] does what `import` does with a recording, which needs
+//! no profile.
 //!
 //! A [`Room`] is the writer into such a buffer: it keeps what fits, and counts all that was written.
 //! [`Room::into_filled`] gives the buffer back. Code over writers of every type doesn't say that a
@@ -29,6 +30,7 @@ mod put;
 mod recordings;
 mod room;
 mod rooms;
+mod under;
 mod whole;
 mod written;
 
@@ -37,8 +39,9 @@ pub use fault::WholeFault;
 pub use json_choice::JsonChoice;
 pub use memory_task::MemoryTask;
 pub use put::Put;
-pub use recordings::{put_import, write_import};
+pub use recordings::put_import;
 pub use room::{Filled, Room};
 pub use rooms::{put_json, put_whole};
+pub use under::{put_json_under, put_whole_under};
 pub use whole::{read_profile, write_json, write_whole};
 pub use written::Written;

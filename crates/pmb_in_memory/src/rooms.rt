@@ -20,8 +20,7 @@ use std::alloc::Global;
 use std::marker::Brand;
 
 /// Puts what the work's subcommand writes of an input under a profile at the start of a room, as
-/// far as it fits; what stands after it stays. Nothing but the profile, and the devices of `run`,
-/// takes memory.
+/// far as it fits; what stands after it stays.
 ///
 /// # Errors
 ///
@@ -42,7 +41,7 @@ pub fn put_whole(
 
 /// Puts the objects of a capture under a profile, each as a line of JSON, at the start of a room,
 /// as far as they fit; what stands after them stays. Those of devices at these addresses are wanted,
-/// of seven bits each, and of all devices where there is none. Nothing but the profile takes memory.
+/// of seven bits each, and of all devices where there is none.
 ///
 /// # Errors
 ///
@@ -64,10 +63,10 @@ pub fn put_json(
 
 /// The room again, how long the text is, and how the work ended.
 #[derive(Drop)]
-struct Ended<'r> {
-    room: &'r mut [u8],
-    length: usize,
-    outcome: Result<Tally, WholeFault>,
+pub(crate) struct Ended<'r> {
+    pub(crate) room: &'r mut [u8],
+    pub(crate) length: usize,
+    pub(crate) outcome: Result<Tally, WholeFault>,
 }
 
 /// Puts the text of a work into the room of a place.

@@ -12,22 +12,22 @@ ghost use Rattle.pmb_in_memory.specs.MemoryTask.{working};
 use crate::fault::WholeFault;
 use crate::json_choice::JsonChoice;
 use crate::memory_task::MemoryTask;
-use pmb_build::build;
-use pmb_capture::{check_capture, show};
+use pmb_build::build_whole;
+use pmb_capture::{check_whole, show_whole};
 use pmb_fact_stream::{Choice, Telling};
-use pmb_io::{Empty, Sink, Tally, ToolFault};
-use pmb_run::run;
+use pmb_io::{Sink, Tally, ToolFault};
+use pmb_run::run_whole;
 use pmb_table::BusProfile;
 use pmb_table::laws::accepted_bus;
-use pmb_telling::tell;
+use pmb_telling::tell_whole;
 use std::alloc::Global;
 
 /// Writes what the work's subcommand writes of an input under a profile, and answers its tally.
 ///
 /// # Errors
 ///
-/// `Profile` where the profile's text has a fault. `Memory` where there was none for the profile, or
-/// for the devices of `run`. `Write` where the writer failed.
+/// `Profile` where the profile's text has a fault. `Memory` where there was none. `Write` where the
+/// writer failed.
 pub fn write_whole<W: Sink>(
     work: MemoryTask,
     alloc: Global,
@@ -49,8 +49,8 @@ pub fn write_whole<W: Sink>(
 ///
 /// # Errors
 ///
-/// `Profile` where the profile's text has a fault. `Memory` where there was none for the profile.
-/// `Write` where the writer failed.
+/// `Profile` where the profile's text has a fault. `Memory` where there was none. `Write` where the
+/// writer failed.
 pub fn write_json<W: Sink>(
     choice: JsonChoice,
     devices: &[u8],
@@ -62,7 +62,7 @@ pub fn write_json<W: Sink>(
     ensures { WorksOn W.told (telling choice devices.now) profile.now capture.now out.old out.new result }
 {
     match read_profile(alloc, profile) {
-        Ok(bus) => ended(json_under(choice, devices, &bus, capture, out)),
+        Ok(bus) => ended(json_under(choice, devices, alloc, &bus, capture, out)),
         Err(fault) => Err(fault),
     }
 }
@@ -85,7 +85,7 @@ pub fn read_profile(alloc: Global, text: &[u8]) -> Result<BusProfile, WholeFault
 }
 
 /// Does a work on an input, under a profile.
-fn work_under<W: Sink>(
+pub(crate) fn work_under<W: Sink>(
     work: MemoryTask,
     alloc: Global,
     bus: &BusProfile,
@@ -96,17 +96,18 @@ fn work_under<W: Sink>(
 {
     let profile = bus.profile();
     match work {
-        MemoryTask::Show => show(profile, input, &mut Empty, out),
-        MemoryTask::Check => check_capture(profile, input, &mut Empty, out),
-        MemoryTask::Build => build(profile, input, &mut Empty, out),
-        MemoryTask::Run => run(alloc, profile, input, &mut Empty, out),
+        MemoryTask::Show => show_whole(alloc, profile, input, out),
+        MemoryTask::Check => check_whole(alloc, profile, input, out),
+        MemoryTask::Build => build_whole(alloc, profile, input, out),
+        MemoryTask::Run => run_whole(alloc, profile, input, out),
     }
 }
 
 /// Writes the objects of a capture, under a profile and the addresses that it ignores.
-fn json_under<W: Sink>(
+pub(crate) fn json_under<W: Sink>(
     choice: JsonChoice,
     devices: &[u8],
+    alloc: Global,
     bus: &BusProfile,
     capture: &[u8],
     out: &mut W,
@@ -120,18 +121,11 @@ fn json_under<W: Sink>(
         ignored: bus.ignored(),
         telling: Telling::Objects,
     };
-    tell(
-        bus.profile(),
-        chosen,
-        choice.bad_words,
-        capture,
-        &mut Empty,
-        out,
-    )
+    tell_whole(alloc, bus.profile(), chosen, choice.bad_words, capture, out)
 }
 
 /// How a run over bytes at hand ended.
-fn ended(outcome: Result<Tally, ToolFault>) -> Result<Tally, WholeFault>
+pub(crate) fn ended(outcome: Result<Tally, ToolFault>) -> Result<Tally, WholeFault>
     ensures { result ≡ whole_of outcome }
 {
     match outcome {

@@ -22,4 +22,4 @@ mod lines;
 mod result;
 mod runner;
 
-pub use lines::run;
+pub use lines::{run, run_whole};

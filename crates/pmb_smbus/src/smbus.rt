@@ -1,7 +1,8 @@
 //! Recordings of the kernel's events of `smbus`, line by line.
 
-ghost use Rattle.std.specs.Prelude.{◌≡◌, option_copied};
+ghost use Rattle.std.specs.Prelude.{◌≡◌, ◌≤◌, length, option_copied};
 ghost use Rattle.pmb_recording.specs.Content.{most_line};
+ghost use Rattle.pmb_recording.specs.Recording.{following, most_text};
 ghost use Rattle.pmb_recording.specs.Runs.{Ends, Stands, importing, tally_of};
 ghost use Rattle.pmb_recording.proofs.Runs.{imports_all};
 ghost use Rattle.pmb_smbus.specs.Transfers.{start, take_end, take_line};
@@ -37,6 +38,14 @@ impl Smbus {
             transfers: Transfers::new(bus),
             bytes: Bytes::new(),
         }
+    }
+
+    /// Follows the bus of this name, unless one is followed already.
+    pub fn follow(&mut self, name: &[u8])
+        requires { length name.now ≤ most_text }
+        ensures { self.new ≡ record self.old { recording = following self.old.recording name.now } }
+    {
+        self.transfers.recording.follow(name);
     }
 }
 

@@ -11,6 +11,7 @@ pub mod Taking
 pub mod Fronts
 pub mod Endings
 pub mod Running
+pub mod Telling
 pub mod BadLines
 pub mod OneText
 pub mod SomeText

@@ -2,7 +2,7 @@
 -- what it does after a bad word. For `tell` and `tell_kept` of `src/run.rt`. The engine's own job is about the
 -- `Teller` it
 -- began with; its three values are those that it was made of.
-use Rattle.std.proofs.Common.{◌≡◌, ℕ, Result, Ok, Err, List, [], ◌++◌, sym, subst}
+use Rattle.std.proofs.Common.{◌≡◌, ℕ, Result, Ok, Err, List, [], ◌++◌, inl, inr, sym, subst}
 use Rattle.pmb_command.specs.Bus.{IsBus}
 use Rattle.pmb_command.specs.Parts.{DeviceParts}
 use Rattle.pmb_io.specs.Engines.{engine_job}
@@ -15,6 +15,7 @@ use Rattle.pmb_io.specs.declared.tally.Tally.{Tally}
 use Rattle.pmb_io.specs.Runs.{AsTool, Job, Ran}
 use Rattle.pmb_io.specs.Told.{ReaderTold, WriterTold}
 use Rattle.pmb_io.proofs.RunLemmas.{failed_as, ran_as}
+use Rattle.pmb_whole_input.specs.Whole.{Wrote}
 use Rattle.pmb_scan.specs.declared.after_bad_token.AfterBadToken.{AfterBadToken}
 use Rattle.pmb_telling.specs.declared.engine.Teller.{Teller}
 use Rattle.pmb_telling.specs.Kept.{StopsKept, WritesKept, keeping_job}
@@ -141,3 +142,32 @@ module _ {R W : Type 0} (reader_told : R → ReaderTold) (writer_told : W → Wr
   tool_told (Err tool.TooManyReads) ran = ran_told (Err TooManyReads) ran
   tool_told (Err tool.ProfileTooLong) ran = ran
   tool_told (Err tool.Memory) ran = ran
+
+-- a capture that was at hand as a whole is told
+module _ {W K : Type 0} (told : W → WriterTold) (Keeps : K → Setting → List FactData → Type 0) (start now : Teller K)
+    (choice : ChoiceData) (profile : List DeviceParts) (after : AfterBadToken)
+    (same_choice : teller_choice start ≡ choice) (same_profile : teller_profile start ≡ profile)
+    (same_after : teller_bad_words start ≡ after) (input : List ℕ) (old new : W) where
+  pub whole_told : (tally : Tally) → tally ≡ teller_tally now → Wrote told (own_job Keeps start now) input old new tt
+      → Wrote told (telling_job choice profile after) input old new tally
+  whole_told tally counted wrote =
+      let job = λ (k : ChoiceData) (p : List DeviceParts) (a : AfterBadToken). telling_job k p a in
+      subst (λ (a : AfterBadToken). Wrote told (job choice profile a) input old new tally) same_after
+      (subst (λ (p : List DeviceParts). Wrote told (job choice p (teller_bad_words start)) input old new tally)
+      same_profile
+      (subst (λ (k : ChoiceData). Wrote told (job k (teller_profile start) (teller_bad_words start)) input old new
+      tally) same_choice
+      (subst (λ (t : Tally). Wrote told (job (teller_choice start) (teller_profile start) (teller_bad_words start))
+      input old new t) (sym counted) (record {
+        text = wrote.text;
+        is_text = elim wrote.is_text [
+          | inl ended ↦ inl ended.writes
+          | inr stopped ↦ inr (record {
+            ends = stopped.ends;
+            writes = stopped.writes.writes;
+            whatever_follows = λ more. (stopped.whatever_follows more).writes;
+          })
+        ];
+        appended = wrote.appended;
+        none_failed = wrote.none_failed;
+      }))))

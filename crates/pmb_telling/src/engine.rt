@@ -16,9 +16,11 @@ ghost use Rattle.pmb_telling.specs.Tell.{WritesToldFront};
 ghost use Rattle.pmb_telling.specs.declared.engine.EngineState.TheVariants as inside;
 ghost use Rattle.pmb_telling.specs.machine.Standing.{HasEnded, HasPutOut, HasStopped, IsLess, StandsBehindBadWord, StandsInBadLine, StandsInBadWord, StandsInWords, TakesLine, teller_bad_words, teller_choice, teller_profile, teller_tally, last_word_lines, open_word_fact, stops_for_good};
 ghost use Rattle.pmb_json_objects.specs.Counts.{after_bad_token};
-ghost use Rattle.pmb_fact_stream.specs.Before.{Before};
+ghost use Rattle.pmb_fact_stream.specs.Before.{Before, at_first};
 ghost use Rattle.pmb_fact_stream.specs.Choice.{choice_data};
-ghost use Rattle.pmb_fact_stream.specs.Stream.{KeepsFacts, StreamKnows, stream_choice, stream_profile, stream_time};
+ghost use Rattle.pmb_scan.specs.Reached.{at_start};
+ghost use Rattle.pmb_scan.specs.Scan.{ScanStandsAt};
+ghost use Rattle.pmb_fact_stream.specs.Stream.{KeepsFacts, StreamBegins, StreamKnows, stream_choice, stream_profile, stream_time};
 
 use crate::word_end::{behind, is_over, line_bytes, word_bytes};
 use crate::word_laws::bad_words_stand_there;
@@ -85,23 +87,41 @@ impl<'p, K: Keeper> Teller<'p, K> {
             ignored,
             telling,
         } = choice;
+        let stream = Stream::new(
+            profile,
+            Choice {
+                digits,
+                start,
+                devices,
+                ignored,
+                telling,
+            },
+        );
+        Teller::of(profile, bad_words, Scan::new(profile), stream, keeper)
+    }
+
+    /// Of a scan and a stream to which nothing was given yet.
+    pub(crate) fn of(
+        profile: &'p Profile,
+        bad_words: AfterBadToken,
+        scan: Scan<'p>,
+        stream: Stream<'p>,
+        keeper: K,
+    ) -> Teller<'p, K>
+        requires scan { ScanStandsAt scan (at_start profile.now) }
+        requires stream { StreamBegins at_first stream }
+        requires same { stream_profile stream ≡ profile.now }
+        ensures profile { teller_profile result ≡ profile.now }
+        ensures choice { teller_choice result ≡ stream_choice stream.entry }
+        ensures bad_words { teller_bad_words result ≡ bad_words }
+        ensures keeper { result.kept.keeper ≡ keeper }
+        ensures begins { HasPutOut K.Keeps result result [] [] }
+    {
         Teller {
             profile,
             bad_words,
-            scan: Scan::new(profile),
-            kept: KeptStream {
-                stream: Stream::new(
-                    profile,
-                    Choice {
-                        digits,
-                        start,
-                        devices,
-                        ignored,
-                        telling,
-                    },
-                ),
-                keeper,
-            },
+            scan,
+            kept: KeptStream { stream, keeper },
             inside: EngineState::Words,
         }
     }

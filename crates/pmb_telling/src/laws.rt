@@ -14,6 +14,7 @@ ghost use Rattle.pmb_fact_stream.specs.Spans.{after_spans, transactions_in};
 ghost use Rattle.pmb_telling.specs.SoFar.{HasTold};
 ghost use Rattle.pmb_telling.specs.Text.{BadLine, FactsFrom, WritesTold};
 
+pub use crate::capture_teller::tellers_have_told;
 use pmb_bus::laws::{each_text_is_read, one_bad_word, one_spelling, spelled_has_no_bad_word};
 use pmb_spans::laws::{each_list_has_spans, one_list_of_spans};
 

@@ -24,11 +24,15 @@
 //! ```
 #![tactic(auto)]
 
+mod capture_teller;
 mod engine;
 pub mod laws;
 mod run;
+mod whole;
 mod word_end;
 mod word_laws;
 
+pub use capture_teller::CaptureTeller;
 pub use pmb_scan::AfterBadToken;
 pub use run::{tell, tell_kept};
+pub use whole::tell_whole;

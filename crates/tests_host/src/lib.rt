@@ -1,5 +1,5 @@
 //! Tests of the host (`pmb_host`), and of requests on simulated devices (`pmb_exchange`), by hand and
-//! beside a host by the rules in words.
+//! beside a host by the rules in words; of I2C messages to simulated devices (`pmb_i2c`).
 #![tactic(auto)]
 
 #[cfg(test)]
@@ -8,3 +8,5 @@ mod compare;
 mod exchange;
 #[cfg(test)]
 mod host;
+#[cfg(test)]
+mod i2c;

@@ -4,6 +4,8 @@
 #![tactic(auto)]
 
 #[cfg(test)]
+mod capture_reader;
+#[cfg(test)]
 mod captures;
 #[cfg(test)]
 mod lines;

@@ -1,6 +1,6 @@
 //! Profiles, their keys, the bus that one makes, and hints for mistakes.
 
-use pmb_hints::hints;
+use pmb_hints::{Place, hints};
 use pmb_io::Io;
 use pmb_keys::{Ignored, array_of, only, present, read_command, read_device_keys};
 use pmb_profile_text::describe;
@@ -76,18 +76,18 @@ fn a_fault_is_explained(rt: HostRuntime) -> Result<(), Fail> {
     let fault = Profile::from_toml(rt.alloc(), text)
         .err()
         .ok_or("no fault")?;
-    let lines = hints(rt.alloc(), text, fault);
-    assert!(rt;
-        lines
-            .as_str()
-            .ends_with("0xb0 is the 8-bit form of 58h: address = 0x58\n")
-    );
+    let hints_of_address = hints(rt.alloc(), text, fault);
+    let lines = hints_of_address.lines.as_str();
+    assert!(rt; lines.starts_with("  line 2, column 1: address = 0xb0: "));
+    assert!(rt; lines.ends_with("0xb0 is the 8-bit form of 58h: address = 0x58\n"));
+    assert!(rt; hints_of_address.place == Some(Place { line: 2, column: 1 }));
     let want = ProfileFault {
         what: FaultKind::OutOfMemory,
         device: None,
         command: None,
     };
     let nothing = hints(rt.alloc(), b"device = []", want);
-    assert!(rt; nothing.as_str() == "");
+    assert!(rt; nothing.lines.as_str() == "");
+    assert!(rt; nothing.place == None);
     Ok(())
 }

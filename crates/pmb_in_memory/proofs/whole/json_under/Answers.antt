@@ -8,7 +8,7 @@ use Rattle.pmb_in_memory.proofs.whole.json_under.Goals as goal
 
 -- What `json` was given is of the profile: its devices, and the addresses that it ignores.
 pub returns : goal.returns
-returns g c = works_as g.W.Sink.told _ c.args.capture.now _ _ c.args.out.now c.tell.new.writer
+returns g c = works_as g.W.Sink.told _ c.args.capture.now c.args.out.now c.tell_whole.new.writer
     (telling c.args.choice c.args.devices.now c.args.bus.now)
     (ap (λ (devices : List DeviceParts). telling_job (record {
       digits = c.args.choice.digits;
@@ -24,4 +24,4 @@ returns g c = works_as g.W.Sink.told _ c.args.capture.now _ _ c.args.out.now c.t
       ignored = ignored;
       telling = Objects;
     }) c.args.bus.now.devices c.args.choice.bad_words) c.ignored.ensures)
-    c.tell.result c.tell.ensures
+    c.tell_whole.result c.tell_whole.ensures

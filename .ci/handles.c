@@ -1,0 +1,259 @@
+/* Calls the functions of pmb.h over handles: what is written is what the calls over whole inputs write;
+ * closed handles, and threads; and, with REFUSES defined and the linker's --wrap of malloc, realloc and
+ * free, with each allocation refused. C99 and C++. */
+#include <pthread.h>
+#include <stdio.h>
+#include <stdlib.h>
+#include <string.h>
+
+#include "pmb.h"
+
+#define THREADS 4
+#define MOST 16384
+
+static int fail(const char *what, int line)
+{
+    fprintf(stderr, "handles: line %d: %s\n", line, what);
+    return 1;
+}
+
+#define EXPECT(holds)                                                                              \
+    do {                                                                                           \
+        if (!(holds)) return fail(#holds, __LINE__);                                               \
+    } while (0)
+
+#include "allocations.h"
+
+static const char toml[] = "[[device]]\n"
+                           "address = 0x58\n"
+                           "pec = \"optional\"\n"
+                           "[[device]]\n"
+                           "address = 0x59\n"
+                           "pec = \"off\"\n"
+                           "pages = 2\n";
+
+/* A write and a read of VOUT_COMMAND, a leg that is refused, an event that no packet allows there, a word
+ * that is no token and what is left of its line, and a packet that the end cuts off. */
+static const char capture[] = "# 1.5 s\nS b0 A 21 A 00 A 18 A f8 A P\n"
+                              "S b2 A 21 A S b3 A 00 A 18 N P S b2 N P\n"
+                              "S b0 P\nS b0 A hm A 21\n"
+                              "S b2 A 20 A S b3 A 17 N P # as it is\nS b0 A 88 ";
+
+static const char requests[] = "get 58 88\nset 58 21 3.3\nget 58 21\n";
+static const char lines[] = "write 58 21 00 18 pec\nwrite 58\n";
+static const pmb_choice choices[] = {
+    {6, PMB_ALL_KNOWN, PMB_END}, {6, PMB_LATE, PMB_GO_ON}, {0, PMB_LATE_FIXED_MODE, PMB_GO_ON}};
+static const uint8_t devices[] = {0x59};
+
+static int same(const pmb_result *a, const pmb_result *b)
+{
+    return a->status == b->status && a->fault == b->fault && a->device == b->device &&
+           a->command == b->command && a->length == b->length && a->packets == b->packets &&
+           a->refusals == b->refusals;
+}
+
+static int is_status(const pmb_result *told, int32_t status)
+{
+    return told->status == status && told->fault == 0 && told->device == -1 && told->command == -1 &&
+           told->length == 0 && told->packets == 0 && told->refusals == 0;
+}
+
+static int stays(const char *out, size_t size)
+{
+    size_t i;
+    for (i = 0; i < size; i++)
+        if (out[i] != '~') return 0;
+    return 1;
+}
+
+/* ---- a profile that is read once */
+
+typedef size_t with_text(const char *, size_t, const char *, size_t, char *, size_t, pmb_result *);
+typedef size_t with_handle(pmb_profile *, const char *, size_t, char *, size_t, pmb_result *);
+
+static const struct call {
+    with_text *text;
+    with_handle *handle;
+    const char *input;
+} calls[] = {
+    {pmb_show, pmb_profile_show, capture},
+    {pmb_check, pmb_profile_check, capture},
+    {pmb_build, pmb_profile_build, lines},
+    {pmb_run, pmb_profile_run, requests},
+};
+#define CALLS (sizeof calls / sizeof *calls)
+
+/* The same, and nothing behind the room, with rooms of a few sizes. */
+static int answers_as_before(pmb_profile *profile)
+{
+    static const size_t rooms[] = {0, 1, 17, MOST / 2};
+    size_t i, k;
+    for (i = 0; i < CALLS * 4; i++) {
+        const struct call *it = &calls[i / 4];
+        const size_t room = rooms[i % 4], size = strlen(it->input);
+        char right[MOST], out[MOST];
+        pmb_result told, expected;
+        memset(right, '~', sizeof right);
+        memset(out, '~', sizeof out);
+        it->text(toml, sizeof toml - 1, it->input, size, right, room, &expected);
+        EXPECT(it->handle(profile, it->input, size, out, room, &told) == expected.length);
+        EXPECT(expected.length > 17 && same(&told, &expected) && memcmp(out, right, MOST) == 0);
+    }
+    for (k = 0; k < 2 * sizeof choices / sizeof *choices; k++) {
+        char right[MOST], out[MOST];
+        pmb_result told, expected;
+        pmb_json(toml, sizeof toml - 1, capture, sizeof capture - 1, &choices[k / 2], devices, k % 2,
+                 right, MOST, &expected);
+        EXPECT(pmb_profile_json(profile, capture, sizeof capture - 1, &choices[k / 2], devices, k % 2,
+                                out, MOST, &told) == expected.length);
+        EXPECT(same(&told, &expected) && memcmp(out, right, expected.length) == 0);
+    }
+    return 0;
+}
+
+static int profiles(void)
+{
+    static const char bad[] = "[[device]]\naddress = 0x58\n";
+    static const pmb_choice wrong = {13, PMB_ALL_KNOWN, PMB_END};
+    static const uint8_t eight_bits[] = {0xb0};
+    pmb_profile profile = {0}, other = {0}, third = {0};
+    pmb_result told;
+    char out[64];
+    EXPECT(pmb_profile_open(&profile, toml, sizeof toml - 1, &told) == PMB_OK);
+    EXPECT(is_status(&told, PMB_OK) && profile.held != NULL);
+    if (answers_as_before(&profile)) return 1;
+    EXPECT(pmb_profile_json(&profile, "", 0, &wrong, devices, 0, out, sizeof out, &told) == 0);
+    EXPECT(is_status(&told, PMB_BAD_CHOICE));
+    EXPECT(pmb_profile_json(&profile, "", 0, choices, eight_bits, 1, out, sizeof out, &told) == 0);
+    EXPECT(is_status(&told, PMB_BAD_CHOICE));
+    /* Each of several handles outlives the others. */
+    EXPECT(pmb_profile_share(&profile, &other) == PMB_OK);
+    EXPECT(pmb_profile_share(&other, &third) == PMB_OK);
+    EXPECT(pmb_profile_share(&other, &third) == PMB_OK);
+    pmb_profile_close(&profile);
+    EXPECT(profile.held == NULL);
+    pmb_profile_close(&profile);
+    if (answers_as_before(&other)) return 1;
+    pmb_profile_close(&other);
+    if (answers_as_before(&third)) return 1;
+    /* What is open is closed first, also where the new profile has a fault. */
+    EXPECT(pmb_profile_open(&third, toml, sizeof toml - 1, &told) == PMB_OK);
+    EXPECT(pmb_profile_open(&third, bad, sizeof bad - 1, &told) == PMB_BAD_PROFILE);
+    EXPECT(told.status == PMB_BAD_PROFILE && told.fault == PMB_MISSING_KEY && told.device == 0);
+    EXPECT(third.held == NULL);
+    return 0;
+}
+
+/* ---- closed handles */
+
+static int closed(void)
+{
+    pmb_profile profile = {0}, other = {0};
+    pmb_result told;
+    char out[8] = "~~~~~~~";
+    size_t i;
+    for (i = 0; i < CALLS; i++) {
+        EXPECT(calls[i].handle(&profile, "S", 1, out, sizeof out, &told) == 0);
+        EXPECT(is_status(&told, PMB_CLOSED) && stays(out, 7));
+    }
+    EXPECT(pmb_profile_json(&profile, "S", 1, choices, devices, 0, out, sizeof out, &told) == 0);
+    EXPECT(is_status(&told, PMB_CLOSED) && stays(out, 7));
+    EXPECT(pmb_profile_open(&other, toml, sizeof toml - 1, &told) == PMB_OK);
+    EXPECT(pmb_profile_share(&profile, &other) == PMB_CLOSED && other.held == NULL);
+    return 0;
+}
+
+/* ---- each allocation refused */
+
+#ifdef REFUSES
+/* A round with handles, in which the allocation of the number `refused` is refused. */
+static int refused_round(int *was_whole)
+{
+    pmb_profile profile = {0}, other = {0};
+    pmb_result told;
+    char out[MOST];
+    int32_t status;
+    counting = 1;
+    *was_whole = 0;
+    status = pmb_profile_open(&profile, toml, sizeof toml - 1, &told);
+    EXPECT(status == told.status && (status == PMB_OK || (status == PMB_NO_MEMORY && !profile.held)));
+    if (status == PMB_OK) {
+        size_t i;
+        status = pmb_profile_share(&profile, &other);
+        EXPECT(status == PMB_OK || (status == PMB_NO_MEMORY && !other.held));
+        *was_whole = status == PMB_OK;
+        for (i = 0; i < CALLS; i++) {
+            memset(out, '~', sizeof out);
+            calls[i].handle(&profile, calls[i].input, strlen(calls[i].input), out, MOST, &told);
+            EXPECT(told.status == PMB_OK || (is_status(&told, PMB_NO_MEMORY) && stays(out, MOST)));
+            if (told.status != PMB_OK) *was_whole = 0;
+        }
+    }
+    pmb_profile_close(&other);
+    pmb_profile_close(&profile);
+    counting = 0;
+    EXPECT(live == 0);
+    return 0;
+}
+
+static int refusals(void)
+{
+    int was_whole = 0;
+    for (later = 0; later < 2; later++) {
+        for (refused = 1;; refused++) {
+            allocations = 0;
+            if (refused_round(&was_whole)) return fail("a refused allocation", (int)refused);
+            if (allocations < refused) break;
+        }
+        EXPECT(refused > 10 && was_whole);
+    }
+    refused = 0;
+    return 0;
+}
+#endif
+
+/* ---- threads */
+
+static void *one_thread(void *given)
+{
+    pmb_profile *mine = (pmb_profile *)given;
+    int i, failed = 0;
+    for (i = 0; i < 20 && !failed; i++) failed = answers_as_before(mine);
+    pmb_profile_close(mine);
+    return failed ? given : NULL;
+}
+
+static int threads(void)
+{
+    pmb_profile profile = {0}, shared[THREADS];
+    pthread_t thread[THREADS];
+    pthread_attr_t attributes;
+    pmb_result told;
+    int i, failed = 0;
+    EXPECT(pmb_profile_open(&profile, toml, sizeof toml - 1, &told) == PMB_OK);
+    EXPECT(pthread_attr_init(&attributes) == 0);
+    EXPECT(pthread_attr_setstacksize(&attributes, 1 << 20) == 0);
+    for (i = 0; i < THREADS; i++) {
+        shared[i].held = NULL;
+        EXPECT(pmb_profile_share(&profile, &shared[i]) == PMB_OK);
+        EXPECT(pthread_create(&thread[i], &attributes, one_thread, &shared[i]) == 0);
+    }
+    pmb_profile_close(&profile);
+    for (i = 0; i < THREADS; i++) {
+        void *result;
+        EXPECT(pthread_join(thread[i], &result) == 0);
+        failed |= result != NULL;
+    }
+    EXPECT(pthread_attr_destroy(&attributes) == 0);
+    return failed;
+}
+
+int main(void)
+{
+    if (profiles() || closed() || threads()) return 1;
+#ifdef REFUSES
+    if (refusals()) return 1;
+#endif
+    (void)counting, (void)later, (void)allocations, (void)live, (void)refused;
+    return 0;
+}

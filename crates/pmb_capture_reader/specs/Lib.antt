@@ -1,0 +1,6 @@
+pub mod Fed
+pub mod Ready
+pub mod Fresh
+pub mod Reader
+pub mod Ground
+pub mod machine

@@ -1,0 +1,6 @@
+use Rattle.std.specs.Prelude.{[], take}
+use Rattle.pmb_hints.proofs.lines.place_at.Goals as goal
+
+-- the place after the front that was taken
+pub returns : goal.returns
+returns c = (c.min.result, c.here.ensures (take c.min.result c.args.text.now) (c.take.ensures [] c.new-places.ensures))

@@ -1,0 +1,20 @@
+use Rattle.std.proofs.Common.{◌∙◌, None, ap, subst}
+use Rattle.pmb_recording.specs.Runs.{importing}
+use Rattle.pmb_recording.specs.declared.recording.Recording.{Recording}
+use Rattle.pmb_saleae.specs.declared.saleae.Saleae.{Saleae}
+use Rattle.pmb_saleae.specs.Packets as source
+use Rattle.pmb_whole_input.specs.Whole.{WritesOrNoMemory}
+use Rattle.pmb_import.proofs.whole.import_saleae.Goals as goal
+
+pub follow-requires : goal.follow-requires
+follow-requires g c = ap (λ (s : Saleae). s.recording) (c.deref_mut-machine.ensures.value ∙ c.in-Some.ensures)
+
+-- A source of no bus that follows this one is a source of this bus.
+pub returns : goal.returns
+returns g c =
+    subst (λ (s : Saleae). WritesOrNoMemory g.W.Sink.told (importing source.take_line source.take_end (λ s. s.recording) s)
+    c.args.recording.now c.args.writer.now c.whole_lines.new.writer c.whole_lines.result)
+    (ap (λ (s : Saleae). record s { recording = c.follow.new.recording })
+    (c.deref_mut-machine.ensures.value ∙ c.in-Some.ensures)
+    ∙ ap (λ (r : Recording). record (source.start None) { recording = r }) c.follow.ensures)
+    c.whole_lines.ensures
