@@ -16,27 +16,54 @@ devices under a profile; recordings of analysers and of the Linux kernel.
     >>> [event.byte for event in pmb.events("S b0 A 21 A P") if event.kind == "byte"]
     [176, 33]
 
+A `Profile` is read once for many calls:
+
+    >>> with pmb.Profile(profile) as opened:
+    ...     print([opened.check(capture).packets for capture in ("", "S b0 A 03 A P")])
+    [0, 1]
+
 Every call may be made from several threads side by side. What is returned, but for the iterator of
-`events`, and each error can be pickled and copied, and so goes through pools of processes. An
-argument of another type is a `TypeError` that names it. `pmb.objects` has the types of the objects
-that `transactions` gives, and `python3 -m pmb` is the program.
+`events`, and each error can be pickled and copied, and so goes through pools of processes; so does a
+`Profile`. An argument of another type is a `TypeError`
+that names it. `pmb.objects` has the types of the objects that `transactions` gives, and
+`python3 -m pmb` is the program.
 """
 
+import contextlib
 import ctypes
 import json as _json
 import math
 import mmap
 import numbers
 import operator
-import os
-import platform
 import re
-import sys
+import threading
 from decimal import Decimal
 from fractions import Fraction
-from typing import Any, Iterable, Iterator, NamedTuple, Optional, Tuple, Union
+from typing import (
+    Any,
+    Iterable,
+    Iterator,
+    List,
+    NamedTuple,
+    Optional,
+    Tuple,
+    Union,
+)
 
 from . import objects as objects
+from ._library import LIBRARY as _LIBRARY
+from ._library import Choice as _Choice
+from ._library import Event as _Event
+from ._library import Format as _Format
+from ._library import Held as _Held
+from ._library import Lexer as _Lexer
+from ._library import Quantity as _Quantity
+from ._library import Recorder as _Recorder
+from ._library import Result as _Result
+from ._texts import Content
+from ._texts import bytes_of as _bytes
+from ._texts import wrong_type as _wrong_type
 
 __version__ = "0.1.0"
 
@@ -46,6 +73,7 @@ __all__ = [
     "Event",
     "Format",
     "LineError",
+    "Profile",
     "ProfileError",
     "Text",
     "TokenError",
@@ -65,6 +93,9 @@ __all__ = [
     "transactions",
     "version",
 ]
+
+# What an older library lacks.
+_HAS_PROFILES = hasattr(_LIBRARY, "pmb_profile_open")
 
 # The names of the faults, which are those that the program `pmb` prints, by the library's statuses.
 _FAULTS = {
@@ -141,19 +172,26 @@ class ProfileError(Error):
     """A profile has a fault: `fault` is its name, as `BadPages`, and `place` is `profile`, or `device
     0`, or `device 0 command 2`. `device` and `command` are the numbers, counted from 0, or `None`.
     `hint` has the lines with which `pmb profile` helps, and may be empty. The error's text has them
-    too.
+    too. `line` and `column` are where the fault stands in the profile's text, both counted from 1,
+    the column in bytes of UTF-8; or `None`, if there was no memory to look for it.
 
         >>> import pmb
         >>> try:
         ...     pmb.show("[[device]]\\naddress = 0x58", "")
         ... except pmb.ProfileError as error:
-        ...     print(error.fault, error.device, error.command, error, sep=", ")
-        MissingKey, 0, None, MissingKey in device 0
-          pec is missing, such as pec = "optional"
+        ...     print(error.fault, error.device, error.command, error.line, error, sep=", ")
+        MissingKey, 0, None, 1, MissingKey in device 0
+          line 1, column 1: pec is missing, such as pec = "optional"
     """
 
     def __init__(
-        self, fault: str, device: Optional[int], command: Optional[int], hint: str = ""
+        self,
+        fault: str,
+        device: Optional[int],
+        command: Optional[int],
+        hint: str = "",
+        line: Optional[int] = None,
+        column: Optional[int] = None,
     ) -> None:
         place = "profile"
         if device is not None:
@@ -164,12 +202,14 @@ class ProfileError(Error):
         self.device = device
         self.command = command
         self.hint = hint
+        self.line = line
+        self.column = column
 
     def __str__(self) -> str:
         return "\n".join([super().__str__()] + self.hint.splitlines())
 
     def _arguments(self) -> Tuple[Any, ...]:
-        return self.fault, self.device, self.command, self.hint
+        return self.fault, self.device, self.command, self.hint, self.line, self.column
 
 
 class LineError(Error):
@@ -369,122 +409,11 @@ class Format(NamedTuple):
 # float is the exact number that it holds.
 Number = Union[Fraction, int, Decimal, float, str]
 
-# A text, such as a capture's or a profile's.
-Content = Union[str, bytes, bytearray, memoryview]
-
-
-class _Format(ctypes.Structure):
-    _fields_ = [
-        ("kind", ctypes.c_uint8),
-        ("exponent", ctypes.c_int8),
-        ("mode", ctypes.c_uint8),
-        ("r", ctypes.c_int8),
-        ("m", ctypes.c_int16),
-        ("b", ctypes.c_int16),
-    ]
-
-
-class _Quantity(ctypes.Structure):
-    _fields_ = [("numerator", ctypes.c_int64), ("denominator", ctypes.c_int64)]
-
-
-class _Lexer(ctypes.Structure):
-    _fields_ = [
-        ("used", ctypes.c_uint64),
-        ("at", ctypes.c_uint64),
-        ("place", ctypes.c_uint8),
-        ("first", ctypes.c_uint8),
-        ("second", ctypes.c_uint8),
-    ]
-
-
-class _Event(ctypes.Structure):
-    _fields_ = [("kind", ctypes.c_uint8), ("byte", ctypes.c_uint8)]
-
-
-class _Choice(ctypes.Structure):
-    _fields_ = [
-        ("digits", ctypes.c_uint8),
-        ("start", ctypes.c_uint8),
-        ("bad_words", ctypes.c_uint8),
-    ]
-
-
-class _Recorder(ctypes.Structure):
-    _fields_ = [
-        ("rate", ctypes.c_uint64),
-        ("source", ctypes.c_uint8),
-        ("names_bus", ctypes.c_uint8),
-        ("unshifted", ctypes.c_uint8),
-    ]
-
-
-class _Result(ctypes.Structure):
-    _fields_ = [
-        ("status", ctypes.c_int32),
-        ("fault", ctypes.c_int32),
-        ("device", ctypes.c_int32),
-        ("command", ctypes.c_int32),
-        ("length", ctypes.c_size_t),
-        ("packets", ctypes.c_uint64),
-        ("refusals", ctypes.c_uint64),
-    ]
-
-
-def _released() -> str:
-    """The folder of the released library and program: the package's own, or that of a clone."""
-    here = os.path.dirname(os.path.abspath(__file__))
-    if os.path.exists(os.path.join(here, "libpmb.so")):
-        return here
-    return os.path.join(os.path.dirname(os.path.dirname(here)), "release")
-
-
-def _load() -> ctypes.CDLL:
-    try:
-        library = ctypes.CDLL(os.path.join(_released(), "libpmb.so"))
-    except OSError as error:
-        raise ImportError(
-            "pmb needs 64-bit Python on Linux and x86-64, and this is {} on {}: {}".format(
-                sys.platform, platform.machine(), error
-            )
-        ) from None
-    status, byte, size = ctypes.c_int32, ctypes.c_uint8, ctypes.c_size_t
-    format_at, quantity_at = ctypes.POINTER(_Format), ctypes.POINTER(_Quantity)
-    code_at, size_at, text = ctypes.POINTER(ctypes.c_uint16), ctypes.POINTER(size), ctypes.c_char_p
-    lexer_at, event_at = ctypes.POINTER(_Lexer), ctypes.POINTER(_Event)
-    room = [ctypes.c_void_p, size, ctypes.POINTER(_Result)]
-    whole = [text, size, text, size]
-    choice = [ctypes.POINTER(_Choice), text, size]
-    recorder = [ctypes.POINTER(_Recorder), text, size]
-    for name, result, arguments in (
-        ("pmb_version", ctypes.c_uint32, []),
-        ("pmb_pec", byte, [byte, text, size]),
-        ("pmb_encode", status, [format_at, _Quantity, code_at]),
-        ("pmb_decode", status, [format_at, ctypes.c_uint16, quantity_at]),
-        ("pmb_quantity_parse", status, [text, size, quantity_at]),
-        ("pmb_quantity_text", status, [_Quantity, text, size, size_at]),
-        ("pmb_command_name", status, [byte, text, size, size_at]),
-        ("pmb_bit_name", status, [byte, byte, text, size, size_at]),
-        ("pmb_lex", status, [lexer_at, ctypes.c_void_p, size, size_at, event_at]),
-        ("pmb_lex_end", status, [lexer_at, event_at]),
-        ("pmb_show", size, whole + room),
-        ("pmb_check", size, whole + room),
-        ("pmb_build", size, whole + room),
-        ("pmb_run", size, whole + room),
-        ("pmb_json", size, whole + choice + room),
-        ("pmb_import", size, recorder + [text, size] + room),
-        ("pmb_profile_fault", size, [text, size] + room),
-    ):
-        # (a library that was put in the place of the package's own may be older)
-        if name == "pmb_import" and not hasattr(library, name):
-            continue
-        function = getattr(library, name)
-        function.restype = result
-        function.argtypes = arguments
-    return library
-
-
-_LIBRARY = _load()
+# What a call takes as a profile, and as the addresses of the wanted devices.
+_Profiled = Union[Content, "Profile"]
+_Devices = Optional[Iterable[Union[int, str]]]
+# A choice, the wanted addresses and their number, as the library takes them.
+_Chosen = Tuple[Any, bytes, int]
 
 
 def version() -> str:
@@ -659,7 +588,7 @@ def _events(pieces: Iterator[Content]) -> Iterator[Event]:
         yield _event(event)
 
 
-def show(profile: Content, capture: Content) -> Text:
+def show(profile: _Profiled, capture: Content) -> Text:
     """What `pmb show` writes of a capture: a line for each packet, with what it says, and for each
     refusal. Raises a `ProfileError`.
 
@@ -671,7 +600,7 @@ def show(profile: Content, capture: Content) -> Text:
     return _text(_SHOW, profile, _bytes("capture", capture))
 
 
-def check(profile: Content, capture: Content) -> Text:
+def check(profile: _Profiled, capture: Content) -> Text:
     """What `pmb check` writes of a capture: a line for each refusal, and one with the numbers of
     packets and refusals, which the text has as `packets` and `refusals` too. Raises a
     `ProfileError`.
@@ -685,7 +614,7 @@ def check(profile: Content, capture: Content) -> Text:
     return _text(_CHECK, profile, _bytes("capture", capture))
 
 
-def build(profile: Content, lines: Content, strict: bool = True) -> Text:
+def build(profile: _Profiled, lines: Content, strict: bool = True) -> Text:
     """The events of the packets of transaction lines, as `pmb build` writes them.
 
     Raises a `ProfileError`, and a `LineError` for the first line that has a fault. Where it is not
@@ -705,7 +634,7 @@ def build(profile: Content, lines: Content, strict: bool = True) -> Text:
     return text
 
 
-def run(profile: Content, requests: Content) -> Text:
+def run(profile: _Profiled, requests: Content) -> Text:
     """What `pmb run` writes of request lines: what is recorded of each on a bus of simulated devices,
     and its result. Raises a `ProfileError`.
 
@@ -719,9 +648,9 @@ def run(profile: Content, requests: Content) -> Text:
 
 
 def json(
-    profile: Content,
+    profile: _Profiled,
     capture: Content,
-    devices: Iterable[Union[int, str]] = (),
+    devices: _Devices = None,
     digits: int = 6,
     late: bool = False,
     fixed_vout_mode: bool = False,
@@ -748,17 +677,16 @@ def json(
 
 
 def transactions(
-    profile: Content,
+    profile: _Profiled,
     capture: Content,
-    devices: Iterable[Union[int, str]] = (),
+    devices: _Devices = None,
     digits: int = 6,
     late: bool = False,
     fixed_vout_mode: bool = False,
     keep_going: bool = False,
 ) -> Iterator[objects.Object]:
     """The packets of a capture in their order, and its refusals and bad words: dicts, those of `pmb
-    json` without the counts at the end. Arguments and errors are those of `json`. Each is made when
-    it is asked for, from the text of `json`, whose memory goes back as it is read.
+    json` without the counts at the end. Options and errors are those of `json`.
 
     Each has a `kind`, and `pmb.objects` has a type for each kind. A `time` is a text, and is there
     where a comment tells it. A voltage whose VOUT_MODE the capture has not told has `"mode":
@@ -777,7 +705,7 @@ def transactions(
     """
     choice = _choice(devices, digits, late, fixed_vout_mode, keep_going)
     room, told = _whole(_JSON, profile, _bytes("capture", capture), *choice)
-    return _Objects(room, told.length)
+    return _Objects(_Written(room, told.length))
 
 
 def imported(
@@ -812,9 +740,9 @@ def imported(
     recorder, name = _recorder(source, bus, rate, unshifted)
     given = _bytes("text", text)
     if _IMPORT is None:
-        raise NotImplementedError("the library is older, and has no pmb_import")
+        raise _older("pmb_import")
     asked = (ctypes.byref(recorder), name, len(name), given, len(given))
-    room, told = _filled(_IMPORT, len(given), *asked)
+    room, told = _filled(_IMPORT.alone, _IMPORT.times, len(given), *asked)
     if told.status != _OK:
         raise RuntimeError("the library's status is {}".format(told.status))
     capture = _str(room, told)
@@ -822,46 +750,284 @@ def imported(
     return Text(capture, told.packets, told.refusals)
 
 
+class Profile:
+    """A profile that is read once, for many calls: each function that takes a profile takes it in the
+    place of the text, and those that work under one are its methods too. Raises a `ProfileError`.
+
+        >>> import pmb
+        >>> profile = pmb.Profile("[[device]]\\naddress = 0x58\\npec = 'optional'")
+        >>> profile.check("S b0 A 03 A P").packets, pmb.check(profile, "S b0 A 03 A P S").refusals
+        (1, 1)
+        >>> profile.close()
+        >>> profile.check("")
+        Traceback (most recent call last):
+        ValueError: the profile is closed
+
+    A `with` block closes it at its end. It may be used by several threads at one time. A copy, also
+    one that was pickled, is read anew from the text.
+    """
+
+    def __init__(self, text: Content) -> None:
+        self._text = _bytes("text", text)
+        self._lock = threading.RLock()
+        # A handle is used by one call at a time: the first is only there to open others, which are
+        # lent to calls and kept for the next.
+        self._first: Optional[_Handle] = _open_profile(self._text)
+        self._free: List[_Handle] = []
+
+    def show(self, capture: Content) -> Text:
+        """What `pmb.show` returns under this profile.
+
+            >>> import pmb
+            >>> profile = pmb.Profile("[[device]]\\naddress = 0x58\\npec = 'optional'")
+            >>> print(profile.show("S b0 A 88 A S b1 A 00 A d3 N P"), end="")
+            read 58 88 : 00 d3 # READ_VIN 12
+        """
+        return show(self, capture)
+
+    def check(self, capture: Content) -> Text:
+        """What `pmb.check` returns under this profile.
+
+            >>> import pmb
+            >>> pmb.Profile("[[device]]\\naddress = 0x58\\npec = 'optional'").check("S b0 A 03 A P")
+            'packets 1 refusals 0\\n'
+        """
+        return check(self, capture)
+
+    def build(self, lines: Content, strict: bool = True) -> Text:
+        """What `pmb.build` returns under this profile.
+
+            >>> import pmb
+            >>> pmb.Profile("[[device]]\\naddress = 0x58\\npec = 'on'").build("write 58 03 pec")
+            'S b0 A 03 A 46 A P\\n'
+        """
+        return build(self, lines, strict)
+
+    def run(self, requests: Content) -> Text:
+        """What `pmb.run` returns under this profile. Each call has new devices.
+
+            >>> import pmb
+            >>> profile = pmb.Profile("[[device]]\\naddress = 0x58\\npec = 'optional'")
+            >>> profile.run("get 58 21")
+            'S b0 A 21 A S b1 A 00 A 00 N P\\n# 0\\n'
+        """
+        return run(self, requests)
+
+    def json(
+        self,
+        capture: Content,
+        devices: _Devices = None,
+        digits: int = 6,
+        late: bool = False,
+        fixed_vout_mode: bool = False,
+        keep_going: bool = False,
+    ) -> Text:
+        """What `pmb.json` returns under this profile.
+
+            >>> import pmb
+            >>> profile = pmb.Profile("[[device]]\\naddress = 0x58\\npec = 'optional'")
+            >>> print(profile.json("S b0 A 03 A P").splitlines()[-1])
+            {"kind":"end","packets":1,"refusals":0,"bad_tokens":0}
+        """
+        return json(self, capture, devices, digits, late, fixed_vout_mode, keep_going)
+
+    def transactions(
+        self,
+        capture: Content,
+        devices: _Devices = None,
+        digits: int = 6,
+        late: bool = False,
+        fixed_vout_mode: bool = False,
+        keep_going: bool = False,
+    ) -> Iterator[objects.Object]:
+        """What `pmb.transactions` returns under this profile. It may be closed meanwhile.
+
+            >>> import pmb
+            >>> with pmb.Profile("[[device]]\\naddress = 0x58\\npec = 'optional'") as profile:
+            ...     found = profile.transactions("S b0 A 03 A P\\n" * 3)
+            >>> [it["line"] for it in found]
+            [1, 2, 3]
+        """
+        return transactions(self, capture, devices, digits, late, fixed_vout_mode, keep_going)
+
+    def close(self) -> None:
+        """Gives the memory back. Calls that are under way go on. To close it again does
+        nothing, and each other call is a `ValueError` from then on.
+
+            >>> import pmb
+            >>> profile = pmb.Profile("device = []")
+            >>> profile.close()
+            >>> profile
+            <pmb.Profile of 11 bytes, closed>
+        """
+        with self._lock:
+            self._first = None
+            self._free.clear()
+
+    @property
+    def closed(self) -> bool:
+        """Whether it is closed.
+
+            >>> import pmb
+            >>> with pmb.Profile("device = []") as profile:
+            ...     print(profile.closed)
+            False
+            >>> profile.closed
+            True
+        """
+        return self._first is None
+
+    def __enter__(self) -> "Profile":
+        self._opened()
+        return self
+
+    def __exit__(self, kind: object, error: object, trace: object) -> None:
+        self.close()
+
+    def __repr__(self) -> str:
+        closed = ", closed" if self.closed else ""
+        return "<pmb.Profile of {} bytes{}>".format(len(self._text), closed)
+
+    def __reduce__(self) -> Tuple[Any, ...]:
+        self._opened()
+        return type(self), (self._text,)
+
+    def _opened(self) -> "_Handle":
+        first = self._first
+        if first is None:
+            raise ValueError("the profile is closed")
+        return first
+
+    @contextlib.contextmanager
+    def _lent(self) -> Iterator["_Handle"]:
+        """A handle that no other call uses."""
+        with self._lock:
+            first = self._opened()
+            handle = self._free.pop() if self._free else _shared(first)
+        try:
+            yield handle
+        finally:
+            with self._lock:
+                # (the last that knows a handle closes it)
+                if not self.closed:
+                    self._free.append(handle)
+
+
+class _Handle:
+    """A handle of the library's. The last that knows it closes it."""
+
+    def __init__(self, kind: str) -> None:
+        self._close = getattr(_LIBRARY, kind + "_close")
+        self.at = ctypes.byref(_Held())
+
+    def __del__(self) -> None:
+        self._close(self.at)
+
+
+def _older(name: str) -> NotImplementedError:
+    return NotImplementedError("the library is older, and has no " + name)
+
+
+def _new_handle(kind: str) -> _Handle:
+    if not hasattr(_LIBRARY, kind + "_open"):
+        raise _older(kind + "_open")
+    return _Handle(kind)
+
+
+def _open_profile(toml: bytes) -> _Handle:
+    handle, told = _new_handle("pmb_profile"), _Result()
+    status = _LIBRARY.pmb_profile_open(handle.at, toml, len(toml), ctypes.byref(told))
+    if status == _BAD_PROFILE:
+        raise _profile_error(toml)
+    _raise_status(status)
+    return handle
+
+
+def _shared(first: _Handle) -> _Handle:
+    """Another handle of the same profile."""
+    handle = _new_handle("pmb_profile")
+    _raise_status(_LIBRARY.pmb_profile_share(first.at, handle.at))
+    return handle
+
+
+# ---- the objects of a capture
+
 _READ = _json.JSONDecoder().raw_decode
+_ADDRESSES = {"{:02x}".format(address): address for address in range(128)}
 
 
-class _Objects(Iterator[objects.Object]):
-    """The objects of a text of `json`, of which the counts at the end are left out."""
+def _parsed(lines: str) -> List[Any]:
+    """The objects of lines of JSON, of which the counts at the end are left out."""
+    # (an object of the capture begins with `at`, and one of the counts with `kind`)
+    end = 0 if lines.startswith('{"kind"') else lines.find('\n{"kind"') + 1 or len(lines)
+    if end == 0:
+        return []
+    found: List[Any] = _READ("[" + lines[: end - 1].replace("\n", ",") + "]")[0]
+    for it in found:
+        device = it.get("device")
+        if device is not None:
+            it["address"] = _ADDRESSES[device]
+    return found
 
-    def __init__(self, room: Union[bytes, bytearray, mmap.mmap], length: int) -> None:
+
+class _Written(Iterator[str]):
+    """The lines in a room, some at a time. Their memory goes back as they are read."""
+
+    def __init__(self, room: Union[bytearray, mmap.mmap], length: int) -> None:
         self._room, self._length, self._at, self._back = room, length, 0, 0
 
-    def __next__(self) -> Any:
+    def __next__(self) -> str:
         room, at = self._room, self._at
-        while at < self._length:
-            end = room.find(b"\n", at) + 1
-            it = _READ(room[at:end].decode("ascii"))[0]
-            self._at = at = end
-            if at - self._back >= _STEP and isinstance(room, mmap.mmap):
-                _give_back(room, self._back, at - at % _STEP - self._back)
-                self._back = at - at % _STEP
-            if it["kind"] not in ("device", "end"):
-                device = it.get("device")
-                if device is not None:
-                    it["address"] = int(device, 16)
-                return it
-        # (all is read, and the text is given back)
-        self._room, self._length, self._at = b"", 0, 0
-        raise StopIteration
-
-    # A copy has what is not read yet.
-    def __reduce__(self) -> Tuple[Any, ...]:
-        return _Objects, (bytes(self._room[self._at : self._length]), self._length - self._at)
+        if at >= self._length:
+            raise StopIteration
+        self._at = end = room.find(b"\n", min(at + _BESIDES, self._length - 1)) + 1
+        lines = str(room[at:end], "ascii")
+        if end - self._back >= _STEP and isinstance(room, mmap.mmap):
+            _give_back(room, self._back, end - end % _STEP - self._back)
+            self._back = end - end % _STEP
+        return lines
 
 
 def _give_back(room: mmap.mmap, start: int, length: int) -> None:
     """Gives pages back whose text is read. Nothing depends on it but how much memory is in use."""
     advise = getattr(room, "madvise", None)
     if advise is not None and hasattr(mmap, "MADV_DONTNEED"):
-        try:
+        with contextlib.suppress(OSError):
             advise(mmap.MADV_DONTNEED, start, length)
-        except OSError:
-            pass
+
+
+class _Objects(Iterator[objects.Object]):
+    """The objects of lines that come in parts."""
+
+    def __init__(self, lines: Iterable[str]) -> None:
+        self._lines = iter(lines)
+        self._ready: Iterator[objects.Object] = iter(())
+        self._lock = threading.RLock()
+
+    def __next__(self) -> objects.Object:
+        while True:
+            for it in self._ready:
+                return it
+            with self._lock:
+                # (another thread may have been first)
+                if not operator.length_hint(self._ready):
+                    self._ready = iter(_parsed(self._next_lines()))
+
+    def _next_lines(self) -> str:
+        try:
+            return next(self._lines)
+        except StopIteration:
+            # (all is read, and the memory is given back)
+            self._lines = iter(())
+            raise
+
+    # A copy has what is not read yet, as lines.
+    def __reduce__(self) -> Tuple[Any, ...]:
+        with self._lock:
+            ready = "".join(_json.dumps(it) + "\n" for it in self._ready)
+            rest = [ready, *self._lines]
+            self._lines = iter(rest)
+        return _Objects, (rest,)
 
 
 def _event(event: _Event) -> Event:
@@ -870,10 +1036,6 @@ def _event(event: _Event) -> Event:
 
 
 # ---- arguments
-
-
-def _wrong_type(what: str, wanted: str, given: Any) -> TypeError:
-    return TypeError("{} is {}, not {}".format(what, wanted, type(given).__name__))
 
 
 def _index(what: str, number: Any) -> int:
@@ -895,17 +1057,6 @@ def _each(what: str, wanted: str, given: Any) -> Iterator[Any]:
         return iter(given)
     except TypeError:
         raise _wrong_type(what, wanted, given) from None
-
-
-def _bytes(what: str, text: Any) -> bytes:
-    """The bytes of a text."""
-    if isinstance(text, str):
-        return text.encode("utf-8", "surrogatepass")
-    if isinstance(text, bytes):
-        return text
-    if isinstance(text, (bytearray, memoryview)):
-        return bytes(text)
-    raise _wrong_type(what, "a str or bytes", text)
 
 
 def _data(data: Any) -> bytes:
@@ -954,10 +1105,10 @@ def _address(device: Any) -> int:
 
 def _choice(
     devices: Any, digits: int, late: bool, fixed_vout_mode: bool, keep_going: bool
-) -> Tuple[Any, bytes, int]:
+) -> _Chosen:
     if isinstance(devices, str):
         raise _wrong_type("devices", "a list of addresses", devices)
-    each = _each("devices", "a list of addresses", devices)
+    each = _each("devices", "a list of addresses", () if devices is None else devices)
     wanted = bytes([_address(device) for device in each])
     most_digits = _within("digits", digits, 12)
     if fixed_vout_mode and not late:
@@ -989,17 +1140,28 @@ def _recorder(source: Any, bus: Any, rate: Any, unshifted: Any) -> Tuple[_Record
 
 # ---- whole inputs
 
-# The functions over whole inputs, with how many bytes a byte of input comes to at most, as far as
-# is known: for captures where each word is a refused STOP, for lines of one letter, and for a block
-# of 255 bytes that `run` reads. Most inputs come to less, and one that comes to more is read twice.
-# It is address space that is asked for, and only what is written takes memory.
-_SHOW = (_LIBRARY.pmb_show, 32)
-_CHECK = (_LIBRARY.pmb_check, 32)
-_BUILD = (_LIBRARY.pmb_build, 32)
-_RUN = (_LIBRARY.pmb_run, 208)
-_JSON = (_LIBRARY.pmb_json, 80)
+
+class _Task(NamedTuple):
+    """A function over whole inputs, alone and under a handle; and how many bytes a byte of input comes
+    to at most, as far as is known. Most inputs come to less, and one that comes to more is read twice.
+    It is address space that is asked for, and only what is written takes memory."""
+
+    alone: Any
+    under: Any
+    times: int
+
+
+def _task(name: str, times: int) -> _Task:
+    under = getattr(_LIBRARY, "pmb_profile_" + name, None)
+    return _Task(getattr(_LIBRARY, "pmb_" + name), under, times)
+
+
+# For captures where each word is a refused STOP, for lines of one letter, and for a block of 255 bytes
+# that `run` reads.
+_SHOW, _CHECK, _BUILD = _task("show", 32), _task("check", 32), _task("build", 32)
+_RUN, _JSON = _task("run", 208), _task("json", 80)
 # (lines of one letter, each of which makes no sense; None where the library has no such call)
-_IMPORT = (_LIBRARY.pmb_import, 32) if hasattr(_LIBRARY, "pmb_import") else None
+_IMPORT = _task("import", 32) if hasattr(_LIBRARY, "pmb_import") else None
 
 # How many bytes may be had besides, such as the objects of 64 devices at the end of `json`.
 _BESIDES = 16384
@@ -1029,10 +1191,9 @@ def _first_room(times: int, length: int) -> Union[bytearray, mmap.mmap]:
 
 
 def _filled(
-    function: Tuple[Any, int], length: int, *given: Any
+    call: Any, times: int, length: int, *given: Any
 ) -> Tuple[Union[bytearray, mmap.mmap], _Result]:
     """What a function writes of an input of so many bytes, in its room, and what it tells."""
-    call, times = function
     room, told = _first_room(times, length), _Result()
     while True:
         start = ctypes.c_char.from_buffer(room)
@@ -1048,22 +1209,37 @@ def _filled(
 
 
 def _whole(
-    function: Tuple[Any, int], profile: Content, given: bytes, *more: Any
+    task: _Task, profile: _Profiled, given: bytes, *more: Any
 ) -> Tuple[Union[bytearray, mmap.mmap], _Result]:
     """What a function writes under a profile, in its room, and what it tells."""
-    toml = _bytes("profile", profile)
-    room, told = _filled(function, len(given), toml, len(toml), given, len(given), *more)
-    if told.status == _NO_MEMORY:
-        raise MemoryError("no memory for the profile")
-    if told.status == _BAD_PROFILE:
-        raise _profile_error(toml)
-    if told.status != _OK:
-        raise RuntimeError("the library's status is {}".format(told.status))
+    asked = (given, len(given), *more)
+    if isinstance(profile, Profile):
+        with profile._lent() as handle:
+            room, told = _filled(task.under, task.times, len(given), handle.at, *asked)
+    else:
+        toml = _profile_bytes(profile)
+        room, told = _filled(task.alone, task.times, len(given), toml, len(toml), *asked)
+        if told.status == _BAD_PROFILE:
+            raise _profile_error(toml)
+    _raise_status(told.status)
     return room, told
 
 
-def _text(function: Tuple[Any, int], profile: Content, given: bytes, *more: Any) -> Text:
-    room, told = _whole(function, profile, given, *more)
+def _raise_status(status: int) -> None:
+    if status == _NO_MEMORY:
+        raise MemoryError("no memory for the profile")
+    if status != _OK:
+        raise RuntimeError("the library's status is {}".format(status))
+
+
+def _profile_bytes(profile: Any) -> bytes:
+    if not isinstance(profile, (str, bytes, bytearray, memoryview)):
+        raise _wrong_type("profile", "a str, bytes or a pmb.Profile", profile)
+    return _bytes("profile", profile)
+
+
+def _text(task: _Task, profile: _Profiled, given: bytes, *more: Any) -> Text:
+    room, told = _whole(task, profile, given, *more)
     written = _str(room, told)
     # (a Text is a copy, and two of a long text are enough)
     del room
@@ -1085,7 +1261,8 @@ def _profile_error(toml: bytes) -> Exception:
     lines = room.raw[: told.length].decode("utf-8", "replace").partition("\n")[2]
     device = None if told.device < 0 else told.device
     command = None if told.command < 0 else told.command
-    return ProfileError(_PROFILE_FAULTS[told.fault - 1], device, command, lines.rstrip("\n"))
+    fault, hint = _PROFILE_FAULTS[told.fault - 1], lines.rstrip("\n")
+    return ProfileError(fault, device, command, hint, told.line or None, told.column or None)
 
 
 # ---- formats and quantities

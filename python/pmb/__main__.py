@@ -11,7 +11,7 @@ import signal
 import sys
 from typing import List
 
-from . import _released
+from ._library import released
 
 # What starts a program that may be read and not executed, and where there is no glibc. Each is a
 # name that the system gives to it.
@@ -27,7 +27,7 @@ def _started(program: str) -> List[str]:
 
 def main() -> None:
     """Runs the program, and does not return."""
-    program = os.path.join(_released(), "pmb")
+    program = os.path.join(released(), "pmb")
     if not os.path.exists(program):
         why = "this package has the library without the program, which would be {}".format(program)
     else:
