@@ -1,7 +1,8 @@
 #!/bin/sh
 # Installs what stands in release/, and says what it puts where: the program pmb, the library for C
 # with its header, the manual's pages, and what pkg-config and CMake need to find the library. It
-# needs no make, no compiler and no toolchain.
+# needs no make, no compiler and no toolchain. Where i2cd/build has made them, it also installs
+# pmb-i2cd and libpmb-i2cdev.so, the simulated bus as /dev/i2c-N (docs/i2cd.md).
 #
 #   ./install.sh                  into /usr/local
 #   ./install.sh --uninstall      removes from there what it would install
@@ -175,6 +176,11 @@ each_file() {
     for page in man/*.[13]; do
         "$1" 644 "$page" "$MANDIR/man${page##*.}/${page##*/}" || return
     done
+    # (what is removed may have been made by another clone)
+    if [ "$1" = remove ] || { [ -e i2cd/out/pmb-i2cd ] && [ -e i2cd/out/libpmb-i2cdev.so ]; }; then
+        "$1" 755 i2cd/out/pmb-i2cd "$BINDIR/pmb-i2cd" &&
+            "$1" 755 i2cd/out/libpmb-i2cdev.so "$LIBDIR/libpmb-i2cdev.so"
+    fi
 }
 
 # Puts a file there. It is whole from the first moment, also where one of that name is in use.

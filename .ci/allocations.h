@@ -1,5 +1,5 @@
-/* The allocations of the library, which .ci/wholes.c and .ci/handles.c count and refuse: with REFUSES
- * defined and the linker's --wrap of malloc, realloc and free. C99 and C++. */
+/* The allocations of the library, which .ci/wholes.c, .ci/handles.c and .ci/bus.c count and refuse: with
+ * REFUSES defined and the linker's --wrap of malloc, realloc and free. C99 and C++. */
 /* Counted where `counting` is set: how many there were, and how many blocks are not freed. That with
  * the number `refused` is refused, and all later ones too where `later` is set. */
 static int counting, later;

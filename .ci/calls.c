@@ -433,11 +433,11 @@ static int texts_out(void)
     EXPECT(!writes(write_status, PMB_ZERO_DENOMINATOR, 0, PMB_OK, "PMB_ZERO_DENOMINATOR"));
     EXPECT(!writes(write_status, PMB_OFF, 0, PMB_OK, "PMB_OFF"));
     EXPECT(!writes(write_status, PMB_CLOSED, 0, PMB_OK, "PMB_CLOSED"));
-    EXPECT(!writes(write_status, PMB_CLOSED + 1, 0, PMB_NO_NAME, ""));
+    EXPECT(!writes(write_status, PMB_BUSY + 1, 0, PMB_NO_NAME, ""));
     EXPECT(!writes(write_status, -1, 0, PMB_NO_NAME, ""));
     EXPECT(!writes(write_status, INT32_MIN, 0, PMB_NO_NAME, ""));
     EXPECT(!writes(write_status, INT32_MAX, 0, PMB_NO_NAME, ""));
-    for (code = 0; code <= PMB_CLOSED; code++) {
+    for (code = 0; code <= PMB_BUSY; code++) {
         char text[PMB_MOST_STATUS_NAME + 1];
         size_t length;
         EXPECT(pmb_status_name(code, text, sizeof text, &length) == PMB_OK);

@@ -5,6 +5,7 @@ examples, and on random inputs from a fixed seed.
 """
 
 import array
+import asyncio
 import bisect
 import builtins
 import collections
@@ -15,16 +16,22 @@ import decimal
 import doctest
 import functools
 import glob
+import gzip
 import io
+import itertools
 import json
 import math
+import mmap
 import multiprocessing
 import os
+import pathlib
 import pickle
 import random
 import re
 import runpy
 import shutil
+import signal
+import socket
 import struct
 import subprocess
 import sys
@@ -721,8 +728,10 @@ def compare_wrong_types():
     ):
         check_raises(wrong, call, *given)
     for call in (pmb.show, pmb.check, pmb.build, pmb.run, pmb.json, pmb.transactions):
-        for given in ((PLAIN, 5), (PLAIN, None), (PLAIN, [83, 32]), (5, ""), (None, "")):
+        for given in ((PLAIN, 5), (PLAIN, None), (5, ""), (None, "")):
             check_raises(TypeError, call, *given)
+        if call is not pmb.transactions:
+            check_raises(TypeError, call, PLAIN, [83, 32])
     for wrong, options in (
         (TypeError, {"devices": 0x58}),
         (TypeError, {"devices": "58"}),
@@ -780,6 +789,7 @@ def compare_names_of_arguments():
     seven = "an address in devices has seven bits: "
     either = "an address in devices is an int or two hexadecimal digits, not "
     options = "an address in devices is from 0 to 127, not "
+    file = "capture is a str, bytes, a file, or an iterable of such pieces, "
     for right, call, *given in (
         (numbers + "not int", pmb.pec, 0xB0),
         (numbers + "not NoneType", pmb.pec, None),
@@ -807,7 +817,7 @@ def compare_names_of_arguments():
         ("capture is a str or bytes, not int", pmb.show, PLAIN, 5),
         ("capture is a str or bytes, not int", pmb.check, PLAIN, 5),
         ("capture is a str or bytes, not int", pmb.json, PLAIN, 5),
-        ("capture is a str or bytes, not int", pmb.transactions, PLAIN, 5),
+        (file + "not int", pmb.transactions, PLAIN, 5),
         ("lines is a str or bytes, not list", pmb.build, PLAIN, ["write 58 03"]),
         ("requests is a str or bytes, not list", pmb.run, PLAIN, []),
         ("text is a str or bytes, not NoneType", pmb.imported, "kernel", None),
@@ -1168,6 +1178,8 @@ def compare_page():
     blocks = re.findall("(?ms)^```python\n(.*?)^```$", read("docs", "library.md").decode())
     check(len(blocks) >= 2, f"docs/library.md has {len(blocks)} blocks of Python")
     for block in blocks:
+        if "Reader" in block and not has_readers():
+            continue
         printed = io.StringIO()
         with contextlib.redirect_stdout(printed):
             # (a file's own name, for what is found by it, such as classes that are pickled)
@@ -1196,12 +1208,42 @@ def compare_threads():
     check(not wrong, f"in threads: {wrong[:3]}")
 
 
-# ---- profiles that are read once
+# ---- profiles that are read once, and captures that come in pieces
+
+# A write, a read, a refused leg, a refusal, a word that is no token with what is left of its line, and
+# a packet that the end cuts off, with times and a name.
+SMALL = """# 1.5 s
+S b0 A 21 A 00 A 18 A f8 A P
+S b0 A 8b A S b1 A 00 A 18 N P # as it is
+# 2.5 s
+S b0 A 21 N P
+S b0 P
+S b0 A hm A 21
+\tS b0\r
+A 20 A S b1 A 17 N P S 19 A b0 N P S a0 N P
+S b0 A 88 """
+IGNORES = "ignore = [0x50]\n" + PLAIN + "name = 'VDD'\n"
+
 
 def has_profiles():
     if not pmb._HAS_PROFILES:
         print("library: it has no pmb_profile_open, so no profile was kept", file=sys.stderr)
     return pmb._HAS_PROFILES
+
+
+def has_readers():
+    if not pmb._HAS_READERS:
+        print("library: it has no pmb_reader_open, so no capture was cut", file=sys.stderr)
+    return pmb._HAS_READERS
+
+
+def read_in_pieces(profile, pieces, **options):
+    """The objects of a reader, and what it counted."""
+    with pmb.Reader(profile, **options) as reader:
+        found = [it for piece in pieces for it in reader.feed(piece)] + reader.end()
+        check(reader.ended and not reader.closed, f"{reader}")
+    check(reader.closed, f"{reader} after its block")
+    return found, reader.packets, reader.refusals
 
 
 def compare_profiles(count):
@@ -1285,6 +1327,299 @@ def raised(wrong, call, *given):
         return str(error)
 
 
+def compare_ended():
+    """Readers that are closed, and at the end of a capture, and whose profile is closed."""
+    if not has_readers():
+        return
+    with pmb.Profile(PLAIN) as profile:
+        objects, reader = profile.transactions(["S b0 A 03 A P "] * 3), pmb.Reader(profile)
+        first = next(objects), *reader.feed("S b0 A 03 A P ")
+        stream = profile.transactions(waits([]))
+        for way in (copy.copy, copy.deepcopy, pickle.dumps):
+            for it in (reader, objects, stream):
+                check_raises(TypeError, way, it)
+    check(raised(ValueError, pmb.Reader, profile) == "the profile is closed", f"{profile}")
+    rest = [*objects, *reader.feed("S b0 A 03 A P S")]
+    check([it["kind"] for it in (*first, *rest)] == ["write"] * 5, f"{first}, {rest}")
+    check(reader.end()[0]["reason"] == "Truncated" and reader.end() == [], f"{reader}")
+    check(reader.feed("S b0 A 03 A P ") == [] and reader.ended, f"{reader} after the end")
+    for _ in range(2):
+        reader.close()
+    for call, *given in ((reader.feed, "S"), (reader.end,), (reader.__enter__,)):
+        check(raised(ValueError, call, *given) == "the reader is closed", f"{call} of a closed reader")
+    counts = reader.packets, reader.refusals, reader.closed, repr(reader)
+    right = (2, 1, True, "<pmb.Reader: 2 packets, 1 refusals, closed>")
+    check(counts == right, f"a closed reader: {counts}")
+    with pmb.Reader(PLAIN) as reader:
+        reader.feed("S b0 A")
+    check(reader.closed and not reader.ended, f"{reader}")
+
+
+def compare_cuts(count):
+    """However a text is cut, and in whatever form it comes, its objects are those of the whole."""
+    if not has_readers():
+        return
+    r = random.Random(27)
+    profile = pmb.Profile(IGNORES)
+    for options in (
+        {"keep_going": True},
+        {"keep_going": True, "late": True, "fixed_vout_mode": True, "digits": 12},
+        {"keep_going": True, "devices": ["58"]},
+        {},
+    ):
+        text = pmb.json(profile, SMALL, **options)
+        right = list(pmb.transactions(profile, SMALL, **options)), text.packets, text.refusals
+        for at in range(len(SMALL) + 1):
+            for cut in ([SMALL[:at], SMALL[at:]], [SMALL[:at].encode(), b"", SMALL[at:]]):
+                found = read_in_pieces(profile, cut, **options)
+                check(found == right, f"{cut} {options}: {found}, and not {right}")
+        found = read_in_pieces(profile, SMALL, **options)
+        check(found == right, f"each character {options}: {found}, and not {right}")
+    texts = [(profile, text) for commands, profile, text in examples() if "json" in commands]
+    for at in range(count // 40):
+        profile, text = texts[at] if at < len(texts) else r.choice(texts)
+        text = text if at < len(texts) else disturbed(r, text[: r.randrange(2000)])
+        options = {"keep_going": r.randrange(2) == 1, "digits": r.randrange(13)}
+        right = list(pmb.transactions(profile, text, **options))
+        cuts = sorted(r.randrange(len(text) + 1) for _ in range(r.randrange(9)))
+        pieces = [text[a:b] for a, b in zip([0] + cuts, cuts + [len(text)])]
+        found = read_in_pieces(profile, pieces, **options)[0]
+        check(found == right, f"{text[:60]!r} cut at {cuts}: {len(found)} of {len(right)}")
+        for given in (pieces, iter(pieces), map(bytearray, pieces), map(memoryview, pieces)):
+            found = list(pmb.transactions(profile, given, **options))
+            check(found == right, f"{text[:60]!r} in pieces: {len(found)} of {len(right)}")
+    # (longer than one piece of the package's own, and than its first room)
+    packets = "S b0 A 03 A P\n" * 12000
+    right = list(range(1, 12001))
+    for given in (packets, packets.encode(), [packets], [packets.encode(), ""]):
+        found = [it["line"] for it in pmb.transactions(PLAIN, given)]
+        check(found == right, f"{len(found)} objects of a long {type(given).__name__}")
+    reader = pmb.Reader(PLAIN)
+    found = [it["line"] for it in reader.feed(packets)]
+    check(found == right and reader.packets == 12000, f"{len(found)} objects of a long piece")
+
+
+def files_of(text, folder):
+    """A text in each kind of file."""
+    name = os.path.join(folder, "capture.txt")
+    with open(name, "w", encoding="ascii", newline="") as file:
+        file.write(text)
+    with gzip.open(name + ".gz", "wt", encoding="ascii", newline="") as file:
+        file.write(text)
+    yield open(name, "rb")
+    yield open(name, encoding="ascii")
+    yield open(name, "rb", buffering=0)
+    yield gzip.open(name + ".gz")
+    yield gzip.open(name + ".gz", "rt")
+    yield io.BytesIO(text.encode())
+    yield io.StringIO(text)
+    with open(name, "rb") as file:
+        yield mmap.mmap(file.fileno(), 0, access=mmap.ACCESS_READ)
+    done = subprocess.Popen(["cat", name], stdout=subprocess.PIPE)
+    yield done.stdout
+    done.wait()
+    done = subprocess.Popen(["cat", name], stdout=subprocess.PIPE, encoding="ascii")
+    yield done.stdout
+    done.wait()
+
+
+class Lines:
+    """A file that has nothing but whole lines, as that of somebody's own."""
+
+    def __init__(self, text):
+        self.lines = text.splitlines(True)
+
+    def read(self, size=-1):
+        raise AssertionError("it would wait for all of it")
+
+    def readline(self, size=-1):
+        return self.lines.pop(0) if self.lines else ""
+
+
+class NoData(io.RawIOBase):
+    """A file that has no data yet, and doesn't wait."""
+
+    def readline(self, size=-1):
+        return None
+
+
+def compare_files():
+    """Captures in files, and in what is none."""
+    if not has_readers():
+        return
+    text = SMALL.replace("hm", "A") + "A\n" + "S b0 A 03 A P\n" * 6000
+    right = list(pmb.transactions(IGNORES, text))
+    with tempfile.TemporaryDirectory() as folder:
+        # (one after the other: a pipe has no room for all of it)
+        for file in itertools.chain(files_of(text, folder), [Lines(text)]):
+            found = list(pmb.transactions(IGNORES, file))
+            check(found == right, f"{file}: {len(found)} objects, and not {len(right)}")
+            if not isinstance(file, Lines):
+                file.close()
+        # (those of which nobody has the file, and those that were begun, or are of other bytes)
+        name = os.path.join(folder, "other.txt")
+        for encoding in ("utf-8", "latin-1", "utf-16", "ascii"):
+            begin = "# \xb5s\n" if encoding != "ascii" else "#\n"
+            with open(name, "w", encoding=encoding, newline="") as file:
+                file.write(begin + text)
+            found = list(pmb.transactions(IGNORES, open(name, encoding=encoding)))
+            lines = [it["line"] for it in found]
+            check(lines == [it["line"] + 1 for it in right], f"{encoding}: {len(found)} objects")
+            with open(name, encoding=encoding) as file:
+                check(file.readline() == begin, encoding)
+                found = list(pmb.transactions(IGNORES, file))
+            check(found == right, f"{encoding}, begun: {len(found)} objects")
+    for given, why in (
+        (5, "capture is a str, bytes, a file, or an iterable of such pieces, not int"),
+        (None, "capture is a str, bytes, a file, or an iterable of such pieces, not NoneType"),
+        (pathlib.Path("capture.txt"), "capture is a str, bytes, a file, or an iterable of such "
+                                      "pieces, not a path: open it, as open(path, 'rb')"),
+        ([83, 32], "a piece of capture is a str or bytes, not int"),
+        (["S", None], "a piece of capture is a str or bytes, not NoneType"),
+        (NoData(), "capture is a file that has no data yet and doesn't wait for it"),
+    ):
+        try:
+            found = list(pmb.transactions(PLAIN, given))
+        except (TypeError, BlockingIOError) as error:
+            found = str(error)
+        check(found == why, f"{given!r}: {found}")
+    for why, call in (
+        ("data is a str or bytes, not int", lambda: pmb.Reader(PLAIN).feed(5)),
+        ("profile is a str, bytes or a pmb.Profile, not int", lambda: pmb.Reader(5)),
+    ):
+        try:
+            found = call()
+        except TypeError as error:
+            found = str(error)
+        check(found == why, f"a reader: {found}, and not {why}")
+
+
+def compare_live():
+    """The objects of a packet are there before what follows is written."""
+    if not has_readers():
+        return
+    packets = ["S b0 A 03 A P\n", "S b0 A 21 A 00 ", "A 18 A P\nS b0 A 2", "1 N P\n"]
+    right = [1, 0, 1, 1]
+
+    def written(write, close, seen):
+        for at, packet in enumerate(packets):
+            write(packet.encode())
+            if right[at] and not seen.acquire(timeout=60):
+                check(False, f"the objects of {packet!r} came late")
+        close()
+
+    for kind in ("rb", "r", "raw", "socket"):
+        seen = threading.Semaphore(0)
+        if kind == "socket":
+            end, other = socket.socketpair()
+            file, write, close = end.makefile("rb"), other.sendall, other.close
+        else:
+            number, other = os.pipe()
+            options = {"mode": "rb", "buffering": 0} if kind == "raw" else {"mode": kind}
+            file = open(number, **options)
+            write, close = functools.partial(os.write, other), functools.partial(os.close, other)
+        writer = threading.Thread(target=written, args=(write, close, seen))
+        writer.start()
+        found = []
+        for it in pmb.transactions(PLAIN, file):
+            found.append(it["line"])
+            seen.release()
+        writer.join()
+        file.close()
+        if kind == "socket":
+            end.close()
+        check(found == [1, 2, 3], f"{kind}: the objects of lines {found}")
+    # (behind the end of reading nothing is asked for, and an error loses nothing)
+    pieces = iter(["S b0 A 03 A P ", "hm ", "S"])
+    found = [it["kind"] for it in pmb.transactions(PLAIN, pieces)]
+    check(found == ["write", "bad_token"] and list(pieces) == ["S"], f"up to a bad token: {found}")
+    objects = pmb.transactions(PLAIN, Fails(["S b0 A 0", None, "3 A P\n", None]))
+    found = []
+    for _ in range(4):
+        try:
+            found.append(next(objects)["line"])
+        except OSError as error:
+            found.append(str(error))
+        except StopIteration:
+            found.append("end")
+    check(found == ["it failed", 1, "it failed", "end"], f"after an error: {found}")
+
+
+class Fails:
+    """Pieces, some of which can't be read yet."""
+
+    def __init__(self, pieces):
+        self.pieces = pieces
+
+    def __iter__(self):
+        return self
+
+    def __next__(self):
+        if not self.pieces:
+            raise StopIteration
+        piece = self.pieces.pop(0)
+        if piece is None:
+            raise OSError("it failed")
+        return piece
+
+
+async def waits(pieces):
+    for piece in pieces:
+        await asyncio.sleep(0)
+        yield piece
+
+
+async def in_tasks(right):
+    """What is read by `async for`."""
+    profile = pmb.Profile(IGNORES)
+    for pieces in ([SMALL], SMALL, [SMALL[:99].encode(), b"", SMALL[99:]]):
+        found = [it async for it in profile.transactions(waits(pieces), keep_going=True)]
+        check(found == right, f"asynchronous pieces: {found}")
+    stream = asyncio.StreamReader()
+    objects = pmb.transactions(profile, stream, (), 6, False, False, True)
+    stream.feed_data(SMALL[:40].encode())
+    found = [await objects.__anext__()]
+    # (one that is not there yet may be waited for again)
+    for _ in range(2):
+        try:
+            found.append(await asyncio.wait_for(objects.__anext__(), 0.01))
+        except asyncio.TimeoutError:
+            pass
+    check(found == right[:1], f"an object before the next piece: {found}")
+    stream.feed_data(SMALL[40:].encode())
+    stream.feed_eof()
+    found += [it async for it in objects]
+    check(found == right, f"of a stream: {found}")
+    check([it async for it in objects] == [], "after the end of a stream")
+    number, other = os.pipe()
+    stream = asyncio.StreamReader()
+    transport, _ = await asyncio.get_running_loop().connect_read_pipe(
+        lambda: asyncio.StreamReaderProtocol(stream), open(number, "rb"))
+    objects = profile.transactions(stream, keep_going=True)
+    os.write(other, SMALL[:40].encode())
+    found = [await asyncio.wait_for(objects.__anext__(), 60)]
+    os.write(other, SMALL[40:].encode())
+    os.close(other)
+    found += [it async for it in objects]
+    transport.close()
+    check(found == right, f"of a pipe: {found}")
+    long = "S b0 A 03 A P\n" * 12000
+    found = [it["line"] async for it in profile.transactions(waits([long]))]
+    check(found == list(range(1, 12001)), f"{len(found)} objects of a long piece")
+    for pieces in ([5], ["S", None, 5]):
+        try:
+            found = [it async for it in pmb.transactions(PLAIN, waits(pieces))]
+        except TypeError as error:
+            found = str(error)
+        name = "int" if len(pieces) == 1 else "NoneType"
+        check(found == f"a piece of capture is a str or bytes, not {name}", f"{pieces}: {found}")
+
+
+def compare_tasks():
+    if has_readers():
+        asyncio.run(in_tasks(list(pmb.transactions(IGNORES, SMALL, keep_going=True))))
+
+
 def in_threads(count, work):
     threads = [threading.Thread(target=work, args=(at,)) for at in range(count)]
     for thread in threads:
@@ -1335,6 +1670,102 @@ def compare_shared():
         check(ended == ["the profile is closed"] * 2, f"closed in another thread: {ended}")
 
 
+def compare_older():
+    """A library without readers, where a text is read as a whole, and nothing else is read."""
+    if pmb._HAS_READERS:
+        return
+    for capture in ([], io.StringIO(), waits([])):
+        why = raised(NotImplementedError, pmb.transactions, PLAIN, capture)
+        check(why == "the library is older, and has no pmb_reader_open", f"{capture}: {why}")
+    check(not hasattr(pmb, "Reader"), "a Reader of an older library")
+
+
+def compare_fed_by_threads():
+    """One reader in two threads."""
+    if not has_readers():
+        return
+    reader, found = pmb.Reader(PLAIN), [[], []]
+
+    def fed(at):
+        for _ in range(300):
+            found[at] += reader.feed("S b0 A 03 A P\n")
+
+    in_threads(2, fed)
+    lines = sorted(it["line"] for each in found for it in each)
+    check(lines == list(range(1, 601)) and reader.packets == 600, f"{reader}: {len(lines)} objects")
+
+
+def compare_follow():
+    """What examples/python/follow.py prints of a pipe, and of a file that is still being written."""
+    if not has_readers():
+        return
+    right = read("examples", "python", "follow.out")
+    names = [os.path.join(ROOT, "examples", "sessions", "undervoltage" + end) for end in (".toml", ".txt")]
+    text = read("examples", "sessions", "undervoltage.txt")
+    words = [sys.executable, os.path.join(ROOT, "examples", "python", "follow.py")]
+    for given, piped in ([], b""), (names[:1], text):
+        done = subprocess.run(words + given, input=piped, capture_output=True)
+        found = done.returncode, done.stdout, done.stderr
+        check(found == (0, right, b""), f"follow.py {given}: {found}")
+    with tempfile.NamedTemporaryFile() as file:
+        file.write(text[:1000])
+        file.flush()
+        with subprocess.Popen(words + [names[0], file.name], stdout=subprocess.PIPE) as follows:
+            late = threading.Timer(60, follows.kill)
+            late.start()
+            found = follows.stdout.readline()
+            file.write(text[1000:])
+            file.flush()
+            found += b"".join(follows.stdout.readline() for _ in range(right.count(b"\n") - 1))
+            late.cancel()
+            # (Ctrl-C may be ignored here)
+            follows.terminate()
+            found += follows.stdout.read()
+        check((follows.returncode, found) == (-signal.SIGTERM, right), f"follow.py of a file: {found}")
+
+
+def compare_memory():
+    """No memory in the library, and little for a long capture."""
+    if not has_readers():
+        return
+    feed, calls = pmb._LIBRARY.pmb_reader_feed, []
+
+    def refusing(at, piece, length):
+        calls.append(length)
+        return pmb._NO_MEMORY if len(calls) >= 3 else feed(at, piece, length)
+
+    pmb._LIBRARY.pmb_reader_feed = refusing
+    try:
+        reader = pmb.Reader(PLAIN)
+        found = reader.feed("S b0 A 03 A P\n" * 10000)
+        # (of 16 KB each, of which the third is refused)
+        check(calls == [16384] * 3 and len(found) == 2340, f"{calls}, {len(found)} objects")
+        check_raises(MemoryError, reader.feed, "S")
+        calls.clear()
+        objects = pmb.transactions(PLAIN, "S b0 A 03 A P\n" * 10000)
+        check(sum(1 for _ in zip(range(2340), objects)) == 2340, f"{calls}")
+        check_raises(MemoryError, next, objects)
+    finally:
+        pmb._LIBRARY.pmb_reader_feed = feed
+    program = f"""
+import pmb
+def most():
+    with open("/proc/self/status") as file:
+        return int(file.read().split("VmHWM:")[1].split()[0])
+def read(count):
+    packets = "S b0 A 03 A P\\n" * 1000
+    pieces = (packets for _ in range(count))
+    return sum(it["kind"] == "write" for it in pmb.transactions({PLAIN!r}, pieces))
+read(20)
+before = most()
+print(read(200), most() - before)
+"""
+    done = subprocess.run([sys.executable, "-c", program], capture_output=True)
+    check(done.returncode == 0, f"a long capture: {done.stderr.decode()}")
+    packets, grown = map(int, done.stdout.split())
+    check(packets == 200000 and grown < 4096, f"{packets} packets took {grown} KB more")
+
+
 def main():
     program = os.path.abspath(sys.argv[1])
     compare(program, int(sys.argv[2]) if len(sys.argv) > 2 else 10000)
@@ -1360,7 +1791,16 @@ def main():
     compare_threads()
     compare_profiles(int(sys.argv[2]) if len(sys.argv) > 2 else 10000)
     compare_closed()
+    compare_ended()
+    compare_cuts(int(sys.argv[2]) if len(sys.argv) > 2 else 10000)
+    compare_files()
+    compare_live()
+    compare_tasks()
     compare_shared()
+    compare_fed_by_threads()
+    compare_older()
+    compare_follow()
+    compare_memory()
     ran = subprocess.run([program, "--version"], capture_output=True)
     check(ran.stdout.decode().split()[-1] == pmb.version(), f"the version {pmb.version()}")
     return 1 if failed else 0

@@ -1,6 +1,6 @@
-/* Calls the functions of pmb.h over handles: what is written is what the calls over whole inputs write;
- * closed handles, and threads; and, with REFUSES defined and the linker's --wrap of malloc, realloc and
- * free, with each allocation refused. C99 and C++. */
+/* Calls the functions of pmb.h over handles: what is written is what the calls over whole inputs write,
+ * however a text is cut; closed handles, those of another kind, and threads; and, with REFUSES defined
+ * and the linker's --wrap of malloc, realloc and free, with each allocation refused. C99 and C++. */
 #include <pthread.h>
 #include <stdio.h>
 #include <stdlib.h>
@@ -144,11 +144,13 @@ static int profiles(void)
     return 0;
 }
 
-/* ---- closed handles */
+/* ---- closed handles, and those of another kind */
 
 static int closed(void)
 {
     pmb_profile profile = {0}, other = {0};
+    pmb_reader reader = {0}, wrong;
+    pmb_profile as_profile;
     pmb_result told;
     char out[8] = "~~~~~~~";
     size_t i;
@@ -160,6 +162,107 @@ static int closed(void)
     EXPECT(is_status(&told, PMB_CLOSED) && stays(out, 7));
     EXPECT(pmb_profile_open(&other, toml, sizeof toml - 1, &told) == PMB_OK);
     EXPECT(pmb_profile_share(&profile, &other) == PMB_CLOSED && other.held == NULL);
+    EXPECT(pmb_reader_open(&reader, &profile, choices, devices, 0) == PMB_CLOSED);
+    EXPECT(pmb_reader_feed(&reader, "S", 1) == PMB_CLOSED && pmb_reader_end(&reader) == PMB_CLOSED);
+    EXPECT(pmb_reader_take(&reader, out, sizeof out, &told) == 0);
+    EXPECT(is_status(&told, PMB_CLOSED) && stays(out, 7));
+    pmb_reader_close(&reader);
+    /* Handles whose types were mixed up. */
+    EXPECT(pmb_profile_open(&profile, toml, sizeof toml - 1, &told) == PMB_OK);
+    EXPECT(pmb_reader_open(&reader, &profile, choices, devices, 0) == PMB_OK);
+    wrong.held = profile.held;
+    EXPECT(pmb_reader_feed(&wrong, "S", 1) == PMB_CLOSED && pmb_reader_end(&wrong) == PMB_CLOSED);
+    EXPECT(pmb_reader_take(&wrong, out, sizeof out, &told) == 0 && is_status(&told, PMB_CLOSED));
+    profile.held = wrong.held;
+    as_profile.held = reader.held;
+    EXPECT(pmb_profile_show(&as_profile, "S", 1, out, sizeof out, &told) == 0);
+    EXPECT(is_status(&told, PMB_CLOSED) && stays(out, 7));
+    EXPECT(pmb_profile_share(&as_profile, &other) == PMB_CLOSED);
+    reader.held = as_profile.held;
+    pmb_reader_close(&reader);
+    pmb_profile_close(&profile);
+    return 0;
+}
+
+/* ---- a reader */
+
+/* Takes what is ready, `step` bytes at a time, behind what was taken before. */
+static int take(pmb_reader *reader, char *out, size_t *length, size_t step, pmb_result *told)
+{
+    for (;;) {
+        const size_t moved = pmb_reader_take(reader, out + *length, step, told);
+        EXPECT(moved <= step && told->length >= moved && *length + moved < MOST);
+        EXPECT(told->status == (told->length > moved ? PMB_NO_ROOM : PMB_OK));
+        *length += moved;
+        if (told->status == PMB_OK) return 0;
+        EXPECT(moved == step);
+    }
+}
+
+/* Feeds a text in pieces whose lengths the seed draws, and takes after some of them. */
+static int fed(pmb_profile *profile, const pmb_choice *choice, size_t count, unsigned seed)
+{
+    char right[MOST], out[MOST];
+    pmb_result expected, told;
+    pmb_reader reader = {0};
+    size_t used = 0, length = 0;
+    const size_t whole = pmb_json(toml, sizeof toml - 1, capture, sizeof capture - 1, choice, devices,
+                                  count, right, MOST, &expected);
+    EXPECT(expected.status == PMB_OK && whole > 200);
+    EXPECT(pmb_reader_open(&reader, profile, choice, devices, count) == PMB_OK);
+    while (used < sizeof capture - 1) {
+        size_t piece = seed == 0 ? sizeof capture : seed == 1 ? 1 : (seed = seed * 69069 + 1) >> 27;
+        int32_t status;
+        if (piece > sizeof capture - 1 - used) piece = sizeof capture - 1 - used;
+        status = pmb_reader_feed(&reader, piece == 0 ? NULL : capture + used, piece);
+        EXPECT(status == PMB_OK || (choice->bad_words == PMB_END && status == PMB_ENDED));
+        used += piece;
+        if (seed % 3 == 0 && take(&reader, out, &length, 1 + seed % 700, &told)) return 1;
+    }
+    (void)pmb_reader_end(&reader);
+    if (take(&reader, out, &length, 1000, &told)) return 1;
+    EXPECT(length == whole && memcmp(out, right, whole) == 0);
+    EXPECT(told.packets == expected.packets && told.refusals == expected.refusals);
+    /* It has ended. */
+    EXPECT(pmb_reader_feed(&reader, "S b0 P ", 7) == PMB_ENDED && pmb_reader_end(&reader) == PMB_ENDED);
+    EXPECT(pmb_reader_take(&reader, out, MOST, &told) == 0 && told.status == PMB_OK);
+    EXPECT(told.length == 0 && told.packets == expected.packets);
+    pmb_reader_close(&reader);
+    EXPECT(reader.held == NULL);
+    return 0;
+}
+
+static int readers(void)
+{
+    pmb_profile profile = {0};
+    pmb_reader reader = {0};
+    pmb_result told;
+    char out[MOST];
+    unsigned seed;
+    size_t k;
+    EXPECT(pmb_profile_open(&profile, toml, sizeof toml - 1, &told) == PMB_OK);
+    for (k = 0; k < sizeof choices / sizeof *choices; k++)
+        for (seed = 0; seed < 60; seed++)
+            if (fed(&profile, &choices[k], seed % 2, seed)) return 1;
+    /* An object is ready as soon as its packet is there, also where the profile is closed. */
+    EXPECT(pmb_reader_open(&reader, &profile, choices, devices, 0) == PMB_OK);
+    pmb_profile_close(&profile);
+    EXPECT(pmb_reader_feed(&reader, "S b0 A 03 A P", 13) == PMB_OK);
+    EXPECT(pmb_reader_take(&reader, out, MOST, &told) == 0 && told.status == PMB_OK);
+    EXPECT(pmb_reader_feed(&reader, "\n", 1) == PMB_OK);
+    EXPECT(pmb_reader_take(&reader, out, 0, &told) == 0 && told.status == PMB_NO_ROOM);
+    EXPECT(pmb_reader_take(&reader, out, MOST, &told) == told.length && told.packets == 1);
+    EXPECT(memcmp(out, "{\"at\":0,\"line\":1,\"column\":1,\"kind\":\"write\"", 41) == 0);
+    /* What is open is closed first. */
+    EXPECT(pmb_profile_open(&profile, toml, sizeof toml - 1, &told) == PMB_OK);
+    EXPECT(pmb_reader_open(&reader, &profile, choices, devices, 1) == PMB_OK);
+    EXPECT(pmb_reader_take(&reader, out, MOST, &told) == 0 && told.packets == 0);
+    {
+        static const pmb_choice wrong = {6, 3, PMB_END};
+        EXPECT(pmb_reader_open(&reader, &profile, &wrong, devices, 0) == PMB_BAD_CHOICE);
+        EXPECT(reader.held == NULL);
+    }
+    pmb_profile_close(&profile);
     return 0;
 }
 
@@ -170,25 +273,41 @@ static int closed(void)
 static int refused_round(int *was_whole)
 {
     pmb_profile profile = {0}, other = {0};
+    pmb_reader reader = {0};
     pmb_result told;
-    char out[MOST];
+    char out[MOST], right[MOST];
+    size_t length = 0, whole;
     int32_t status;
+    whole = pmb_json(toml, sizeof toml - 1, capture, sizeof capture - 1, &choices[1], devices, 0, right,
+                     MOST, &told);
+    EXPECT(told.status == PMB_OK);
     counting = 1;
     *was_whole = 0;
     status = pmb_profile_open(&profile, toml, sizeof toml - 1, &told);
     EXPECT(status == told.status && (status == PMB_OK || (status == PMB_NO_MEMORY && !profile.held)));
     if (status == PMB_OK) {
-        size_t i;
         status = pmb_profile_share(&profile, &other);
         EXPECT(status == PMB_OK || (status == PMB_NO_MEMORY && !other.held));
-        *was_whole = status == PMB_OK;
-        for (i = 0; i < CALLS; i++) {
-            memset(out, '~', sizeof out);
-            calls[i].handle(&profile, calls[i].input, strlen(calls[i].input), out, MOST, &told);
-            EXPECT(told.status == PMB_OK || (is_status(&told, PMB_NO_MEMORY) && stays(out, MOST)));
-            if (told.status != PMB_OK) *was_whole = 0;
+        pmb_profile_run(&profile, requests, sizeof requests - 1, out, MOST, &told);
+        EXPECT(told.status == PMB_OK || is_status(&told, PMB_NO_MEMORY));
+        status = pmb_reader_open(&reader, &profile, &choices[1], devices, 0);
+        EXPECT(status == PMB_OK || (status == PMB_NO_MEMORY && !reader.held));
+        if (status == PMB_OK) {
+            status = pmb_reader_feed(&reader, capture, sizeof capture - 1);
+            if (status == PMB_OK) status = pmb_reader_end(&reader);
+            EXPECT(status == PMB_ENDED || status == PMB_OK || status == PMB_NO_MEMORY);
+            if (take(&reader, out, &length, MOST, &told)) return 1;
+            /* What is taken is a front of the right text. */
+            EXPECT(length <= whole && memcmp(out, right, length) == 0);
+            if (status == PMB_NO_MEMORY) {
+                EXPECT(pmb_reader_feed(&reader, "S", 1) == PMB_NO_MEMORY);
+            } else {
+                EXPECT(length == whole);
+                *was_whole = 1;
+            }
         }
     }
+    pmb_reader_close(&reader);
     pmb_profile_close(&other);
     pmb_profile_close(&profile);
     counting = 0;
@@ -217,8 +336,9 @@ static int refusals(void)
 static void *one_thread(void *given)
 {
     pmb_profile *mine = (pmb_profile *)given;
-    int i, failed = 0;
-    for (i = 0; i < 20 && !failed; i++) failed = answers_as_before(mine);
+    int failed = answers_as_before(mine);
+    unsigned seed;
+    for (seed = 0; seed < 20 && !failed; seed++) failed = fed(mine, &choices[1], 0, seed);
     pmb_profile_close(mine);
     return failed ? given : NULL;
 }
@@ -250,7 +370,7 @@ static int threads(void)
 
 int main(void)
 {
-    if (profiles() || closed() || threads()) return 1;
+    if (profiles() || closed() || readers() || threads()) return 1;
 #ifdef REFUSES
     if (refusals()) return 1;
 #endif

@@ -1,11 +1,12 @@
-/* Measures how much stack the functions over whole inputs of pmb.h use, by painting a stack and looking
- * which of its bytes are still as painted after a call. From standard input come lines
+/* Measures how much stack the functions of pmb.h use that take whole inputs or have a handle, by painting
+ * a stack and looking which of its bytes are still as painted after a call. From standard input come lines
  *
  *   CALL PROFILE INPUT
  *
- * with the names of two files; CALL is show, check, build, run, json or fault, or the number of a source
- * of pmb_import, whose PROFILE is not read. It prints the most that each call used, and fails where that
- * is more than MOST bytes. What a thread uses itself counts too.
+ * with the names of two files; CALL is show, check, build, run, json or fault, or reader or bus, for all
+ * calls of such a handle, or the number of a source of pmb_import, whose PROFILE is not read. It prints
+ * the most that each used, and fails where that is more than MOST bytes. What a thread uses itself
+ * counts too.
  *
  *   stack MOST <LINES
  */
@@ -20,9 +21,10 @@
 #define SIZE ((size_t)1 << 20)
 #define PAINT 0xa5
 
-enum call { SHOW, CHECK, BUILD, RUN, JSON, FAULT, IMPORT, CALLS };
+enum call { SHOW, CHECK, BUILD, RUN, JSON, FAULT, READER, BUS, IMPORT, CALLS };
 
-static const char *const names[CALLS] = {"show", "check", "build", "run", "json", "fault", "import"};
+static const char *const names[CALLS] = {"show",  "check",  "build", "run",   "json",
+                                        "fault", "reader", "bus",   "import"};
 
 typedef struct file {
     char *bytes;
@@ -35,11 +37,57 @@ static pmb_recorder recorder;
 static pmb_result told;
 static char room[1 << 16];
 
+/* (reading continues after bad words: that is where a scan begins anew) */
+static const pmb_choice choice = {12, PMB_LATE, PMB_GO_ON};
+static const uint8_t none[1] = {0};
+
+/* All calls of a reader, on the input in pieces of 1,000 bytes. */
+static void use_reader(void)
+{
+    pmb_profile held = {0};
+    pmb_reader reader = {0};
+    size_t at = 0;
+    pmb_profile_open(&held, profile.bytes, profile.length, &told);
+    pmb_reader_open(&reader, &held, &choice, none, 0);
+    pmb_profile_close(&held);
+    while (at < input.length) {
+        const size_t left = input.length - at, some = left < 1000 ? left : 1000;
+        pmb_reader_feed(&reader, input.bytes + at, some);
+        while (pmb_reader_take(&reader, room, sizeof room, &told) > 0) {
+        }
+        at += some;
+    }
+    pmb_reader_end(&reader);
+    pmb_reader_take(&reader, room, sizeof room, &told);
+    pmb_reader_close(&reader);
+}
+
+/* All calls of a bus: each line of the input is a request, and before it come three messages. */
+static void use_bus(void)
+{
+    pmb_profile held = {0};
+    pmb_bus bus = {0};
+    const char *line = input.bytes, *const end = line + input.length;
+    uint8_t bytes[64] = {0};
+    pmb_profile_open(&held, profile.bytes, profile.length, &told);
+    pmb_bus_open(&bus, &held);
+    pmb_profile_close(&held);
+    while (line < end) {
+        const char *const lf = memchr(line, 10, (size_t)(end - line));
+        size_t length = 1;
+        pmb_bus_message(&bus, 0x58, PMB_WRITE, bytes, sizeof bytes, &length, 0);
+        pmb_bus_message(&bus, 0x58, PMB_READ, bytes, sizeof bytes, &length, 1);
+        pmb_bus_message(&bus, 0x58, PMB_READ_BLOCK, bytes, sizeof bytes, &length, 1);
+        pmb_bus_request(&bus, line, (size_t)((lf ? lf : end) - line), &told);
+        while (pmb_bus_events(&bus, room, sizeof room, &told) > 0) {
+        }
+        line = lf ? lf + 1 : end;
+    }
+    pmb_bus_close(&bus);
+}
+
 static void *run(void *unused)
 {
-    /* (reading continues after bad words: that is where a scan begins anew) */
-    static const pmb_choice choice = {12, PMB_LATE, PMB_GO_ON};
-    static const uint8_t none[1] = {0};
     const char *p = profile.bytes, *i = input.bytes;
     const size_t pl = profile.length, il = input.length;
     switch (call) {
@@ -49,6 +97,8 @@ static void *run(void *unused)
     case RUN: pmb_run(p, pl, i, il, room, sizeof room, &told); break;
     case JSON: pmb_json(p, pl, i, il, &choice, none, 0, room, sizeof room, &told); break;
     case FAULT: pmb_profile_fault(p, pl, room, sizeof room, &told); break;
+    case READER: use_reader(); break;
+    case BUS: use_bus(); break;
     case IMPORT: pmb_import(&recorder, "", 0, i, il, room, sizeof room, &told); break;
     case CALLS: break;
     }

@@ -4,8 +4,13 @@ A line that mypy has to refuse says so by `type: ignore` with the reason, since 
 error of its own where mypy has nothing to refuse.
 """
 
+import asyncio
 import json
-from typing import Iterator, List, Optional, Union
+import pathlib
+import socket
+import subprocess
+import sys
+from typing import IO, AsyncIterator, Dict, Iterator, List, Optional, Union
 
 import pmb
 from pmb.objects import BadToken, Device, End, Object, Read, Write
@@ -74,19 +79,82 @@ def calls(capture: str) -> None:
     print(device["writes"], end["packets"], text.refusals, [each["kind"] for each in found])
     print(end["packtes"])  # type: ignore[typeddict-item]
     pmb.pec(0xB0)  # type: ignore[arg-type]
-    pmb.transactions("", capture, devices=0x58)  # type: ignore[arg-type]
+    pmb.transactions("", capture, devices=0x58)  # type: ignore[call-overload]
     pmb.show("", 5)  # type: ignore[arg-type]
     pmb.encode(None, 1)  # type: ignore[arg-type]
     pmb.decode("linear11", 3.0)  # type: ignore[arg-type]
 
 
-def handles(text: str) -> None:
-    with pmb.Profile(text) as profile:
+def captures(profile: pmb.Profile, file: IO[str], pipe: "subprocess.Popen[bytes]") -> None:
+    """All that a capture may be, and what it may not be."""
+    found: Iterator[Object] = pmb.transactions(profile, file, late=True)
+    assert pipe.stdout is not None
+    for capture in (pipe.stdout, sys.stdin.buffer, socket.socket().makefile("rb")):
+        found = profile.transactions(capture)
+    found = pmb.transactions("", ["S b0", b"A"])
+    found = profile.transactions(line for line in file)
+    found = profile.transactions(bytearray(b"S"), ["58"], digits=3)
+    for it in profile.transactions(open("capture.txt", "rb", buffering=0)):
+        print(it["vlaue"])  # type: ignore[typeddict-item]
+    pmb.transactions(profile, pathlib.Path("capture.txt"))  # type: ignore[call-overload]
+    pmb.transactions(profile, [83, 32])  # type: ignore[list-item]
+    profile.transactions(5)  # type: ignore[call-overload]
+    print(found)
+
+
+async def stream(profile: pmb.Profile, reader: asyncio.StreamReader) -> None:
+    found: AsyncIterator[Object] = pmb.transactions(profile, reader, late=True)
+    async for it in profile.transactions(reader, ["58"]):
+        print(it["kind"], it["vlaue"])  # type: ignore[typeddict-item]
+
+    async def pieces() -> AsyncIterator[bytes]:
+        yield b"S b0"
+
+    async for it in pmb.transactions("", pieces()):
+        print(it["at"])
+    for it in pmb.transactions("", pieces()):  # type: ignore[attr-defined]
+        pass
+    print(found)
+
+
+def handles(text: str) -> int:
+    with pmb.Profile(text) as profile, pmb.Reader(profile, devices=[0x58], late=True) as reader:
         shown: pmb.Text = profile.show(text)
-        found: Iterator[Object] = profile.transactions(text, ["58"], late=True)
-        print(shown.packets, pmb.check(profile, text), list(found), profile.closed)
+        both: List[Object] = reader.feed(b"S b0") + reader.feed("A") + reader.end()
+        print(shown.packets, pmb.check(profile, text), both[0]["line"], reader.ended, profile.closed)
+        reader.feed(5)  # type: ignore[arg-type]
+        pmb.Reader(profile, [0x58])  # type: ignore[misc]
         pmb.Profile(profile)  # type: ignore[arg-type]
-        profile.show(5)  # type: ignore[arg-type]
+        reader.packets = 0  # type: ignore[misc]
+        return reader.packets + reader.refusals
+
+
+def buses(profile: pmb.Profile, file: IO[str]) -> None:
+    with pmb.Bus(profile, force=True) as bus:
+        word: int = bus.read_word_data(0x58, 0x21, force=False)
+        block: List[int] = bus.read_block_data(0x58, 0x9E)
+        bus.write_block_data(0x58, 0x9E, b"A17")
+        bus.write_block_data(0x58, 0x9E, block)
+        bus.pec = True
+        bus.i2c_rdwr(pmb.i2c_msg.write(0x58, [word]), pmb.i2c_msg.read(0x58, 2))
+        came: List[bytes] = bus.transfer([pmb.i2c_msg.read(0x58, 2)])
+        told: pmb.Text = bus.request(bus.events())
+        bus.write_byte("58", 3)  # type: ignore[arg-type]
+        bus.read_byte_date(0x58, 3)  # type: ignore[attr-defined]
+        print(came, told.packets, bus.funcs + 1, pmb.i2c_msg.read(0x58, 2).len)
+    device = pmb.Device(bus, profile, 0x58, pec=True, log=file)
+    pmb.Device(bus, "", 0x58, log=print)
+    pmb.Device(file, profile, 0x58)  # type: ignore[arg-type]
+    device["VOUT_COMMAND"] = 3.3
+    device[0x21] = b"\0\x18"
+    device["VOUT_COMMAND"] = file  # type: ignore[assignment]
+    reading: pmb.Reading = device["READ_VOUT"]
+    print(float(reading), reading.value, reading.unit, device.read(0x8B, page=1).bits)
+    print(reading.vlaue)  # type: ignore[attr-defined]
+    status: Dict[str, List[str]] = device.status()
+    page: Optional[int] = device.page
+    names: List[str] = list(device)
+    print(status, page, names)
 
 
 def made() -> Write:

@@ -90,7 +90,11 @@ enum pmb_status {
     /* The code has no value: in the VID table it stands for an output that is off. */
     PMB_OFF = 24,
     /* The handle is not open. */
-    PMB_CLOSED = 25
+    PMB_CLOSED = 25,
+    /* The text has ended, or reading has: the handle takes no more of it. */
+    PMB_ENDED = 26,
+    /* A transfer is under way on the bus: its last message was not sent. */
+    PMB_BUSY = 27
 };
 
 /* A quantity: an exact fraction, without a unit. What is given may be any fraction, of any signs.
@@ -243,8 +247,7 @@ int32_t pmb_lex_end(pmb_lexer *lexer, pmb_event *event);
  *    PMB_NO_MEMORY, and then the room stays and the length is 0.
  *  - It takes memory by malloc and realloc: for the profile, pmb_run for its devices too, and up to
  *    400 KB for what it reads and writes (docs/library.md). It frees all of it before it returns. It
- *    uses less than 96 KB of stack, pmb_json less than 108 KB and pmb_import less than 120 KB. It may
- *    not be called from a signal handler.
+ *    uses less than 96 KB of stack. It may not be called from a signal handler.
  *  - Of the C library it calls malloc, realloc, free, memcpy, memmove and memset.
  */
 
@@ -379,7 +382,8 @@ size_t pmb_profile_fault(const char *profile, size_t profile_length, char *out, 
  * closed does nothing. A handle may be moved, but not copied: only one of two copies may be used. Each
  * is used by one call at a time. It may go to another thread between two calls. For several threads
  * at one time, give each a profile of its own by pmb_profile_share, which takes no time.
- * A call with a closed handle returns PMB_CLOSED, or tells it as its status, and does nothing else.
+ * A call with a closed handle returns PMB_CLOSED, or tells it as its status, and does nothing else;
+ * one that sends messages returns an error of Linux.
  */
 
 /* A profile that was read once. It holds as much memory as the table in docs/library.md says of a call
@@ -423,6 +427,138 @@ size_t pmb_profile_run(pmb_profile *profile, const char *requests, size_t reques
 size_t pmb_profile_json(pmb_profile *profile, const char *capture, size_t capture_length,
                         const pmb_choice *choice, const uint8_t *devices, size_t devices_length,
                         char *out, size_t room, pmb_result *told);
+
+/* A reader of a capture whose text comes in pieces. */
+typedef struct pmb_reader {
+    void *held;
+} pmb_reader;
+
+/* Opens a reader under a profile, with the choices of pmb_json. What the reader held before is closed
+ * first. The profile may be closed before the reader. A reader takes 94 KB, and 122 KB while it is
+ * opened; the list of devices; and room for what is ready and not taken.
+ * Returns PMB_OK, PMB_CLOSED where the profile is, PMB_BAD_CHOICE or PMB_NO_MEMORY; then the reader is
+ * closed. */
+int32_t pmb_reader_open(pmb_reader *reader, pmb_profile *profile, const pmb_choice *choice,
+                        const uint8_t *devices, size_t devices_length);
+
+/* Reads the next piece of the text, of any size: the objects of what it completes (docs/json.md) are
+ * ready after it, each as a line of JSON. However the text is cut, they are those of pmb_json.
+ * Returns PMB_OK; or PMB_ENDED, where reading has ended: at a word that is no token (if the choice is
+ * PMB_END), or since the end was given; or PMB_NO_MEMORY: what was ready stays, and no more is read. */
+int32_t pmb_reader_feed(pmb_reader *reader, const char *piece, size_t length);
+
+/* The text ends here: its last objects are ready after it. Returns as pmb_reader_feed does. */
+int32_t pmb_reader_end(pmb_reader *reader);
+
+/* Moves what is ready into the room as far as it fits, the oldest first, and returns how many bytes that
+ * are. In `told` the status is PMB_OK, or PMB_NO_ROOM where some stay ready; `length` is how many were
+ * ready, and `packets` and `refusals` are the counts so far, as those of pmb_json. With a room of 0 bytes
+ * nothing moves. */
+size_t pmb_reader_take(pmb_reader *reader, char *out, size_t room, pmb_result *told);
+
+/* Closes the reader. What is ready and was not taken is gone. */
+void pmb_reader_close(pmb_reader *reader);
+
+/* A bus of simulated devices: those of a profile, which keep what is written to them from one call to the
+ * next (docs/devices.md). What is on the wire is logged until pmb_bus_events takes it. */
+typedef struct pmb_bus {
+    void *held;
+} pmb_bus;
+
+/* The flags of a message: those of <linux/i2c.h>. */
+enum pmb_message_flags {
+    PMB_WRITE = 0,
+    /* I2C_M_RD. */
+    PMB_READ = 1,
+    /* I2C_M_RD | I2C_M_RECV_LEN: the first byte that the device gives says how many follow it. */
+    PMB_READ_BLOCK = 0x0401
+};
+
+/* A message, laid out as `struct i2c_msg` of Linux is. */
+typedef struct pmb_message {
+    uint16_t address; /* of seven bits: 58h, and not b0h */
+    uint16_t flags;   /* one of enum pmb_message_flags */
+    uint16_t length;  /* how many bytes are written, or how many there is room for */
+    uint8_t *bytes;
+} pmb_message;
+
+/* Makes the devices of a profile, each as it is at power-up. What the handle held before is closed
+ * first. The profile may be closed before the bus. A bus takes 105 KB, and all memory that its devices
+ * will ever need (docs/devices.md, "What it costs"); after that only the log grows, by 52 KB at the first
+ * messages and requests, and by what isn't taken of it. This call uses less than 108 KB of stack, and
+ * the other calls of a bus less than 96 KB.
+ * Returns PMB_OK, PMB_CLOSED where the profile is, or PMB_NO_MEMORY; then the bus is closed. */
+int32_t pmb_bus_open(pmb_bus *bus, pmb_profile *profile);
+
+/* Sends a message: START or a repeated START, the address, and the bytes. `flags` is one of enum
+ * pmb_message_flags. STOP comes after it where `last` is not 0, and also after an address or a byte
+ * without ACK. Devices act at STOP.
+ * `length` is how many bytes are written or read; 0 makes a quick command. A byte that no device gives
+ * is read as ffh. For PMB_READ_BLOCK `length` is how many bytes follow the block, 1 where a packet error
+ * code does; there has to be room for 33 more; and `length` is set to how many came in all, the count
+ * among them.
+ * Returns 0, or one of these errors of Linux, and then `length` and a room for what is read stay:
+ *  - -6, ENXIO: no device took the address.
+ *  - -121, EREMOTEIO: a device refused a byte.
+ *  - -71, EPROTO: the count of a block is 0, or above 32.
+ *
+ * With one of these nothing was sent:
+ *  - -22, EINVAL: the address is above 7fh, there is less room than the length asks for, or the length,
+ *    with the 33 bytes of a block, is above 8,192.
+ *  - -95, EOPNOTSUPP: other flags.
+ *  - -9, EBADF: the handle is not open.
+ *  - -12, ENOMEM: there is no memory for the log. */
+int32_t pmb_bus_message(pmb_bus *bus, uint16_t address, uint16_t flags, uint8_t *bytes, size_t room,
+                        size_t *length, uint8_t last);
+
+/* Does a request, a line as pmb_run takes it, on the devices as they are. What pmb_run would write of it,
+ * its events and its result, is logged. In `told`, `packets` is 1 where it was done, and `refusals` is 1
+ * where it failed.
+ * Returns the status, which is PMB_OK also where the request failed; or PMB_BUSY where a transfer is
+ * under way, PMB_CLOSED, or PMB_NO_MEMORY, and then nothing was sent. */
+int32_t pmb_bus_request(pmb_bus *bus, const char *line, size_t length, pmb_result *told);
+
+/* Moves what was logged into the room as far as it fits, the oldest first, and returns how many bytes that
+ * are: the text of a capture (docs/text.md), for pmb_show or for a reader. In `told` the status is
+ * PMB_OK, or PMB_NO_ROOM where some stay; `length` is how many there were. With a room of 0 bytes
+ * nothing moves. */
+size_t pmb_bus_events(pmb_bus *bus, char *out, size_t room, pmb_result *told);
+
+/* Closes the bus. What was logged and not taken is gone. */
+void pmb_bus_close(pmb_bus *bus);
+
+#if defined(__cplusplus) || (defined(__STDC_VERSION__) && __STDC_VERSION__ >= 199901L)
+/* Sends some messages as one transfer, as I2C_RDWR of Linux's i2c-dev does: a repeated START is between
+ * them, and STOP after the last. For PMB_READ_BLOCK the first of the bytes says before the call how many
+ * come beside the block's own, its count among them: 1, or 2 with a packet error code. There has to be
+ * room for 32 more. `length` is set to how many came.
+ * Returns how many messages were sent, which is all of them; or the error of the first that failed, as
+ * pmb_bus_message returns it, and no message after it is sent. With -22 or -95 nothing was sent. After
+ * -12 at a later message than the first the transfer is still under way, until a message with STOP. */
+static inline int32_t pmb_bus_transfer(pmb_bus *bus, pmb_message *messages, size_t count)
+{
+    size_t i;
+    if (count > 0x7fffffff) return -22;
+    for (i = 0; i < count; i++) {
+        const pmb_message *const it = &messages[i];
+        if (it->flags != PMB_WRITE && it->flags != PMB_READ && it->flags != PMB_READ_BLOCK) return -95;
+        if (it->address > 0x7f || it->length > 8192) return -22;
+        if (it->flags == PMB_READ_BLOCK &&
+            (it->length == 0 || it->bytes[0] == 0 || it->length < it->bytes[0] + 32))
+            return -22;
+    }
+    for (i = 0; i < count; i++) {
+        pmb_message *const it = &messages[i];
+        const int is_block = it->flags == PMB_READ_BLOCK;
+        size_t length = is_block ? (size_t)it->bytes[0] - 1 : it->length;
+        const int32_t error = pmb_bus_message(bus, it->address, it->flags, it->bytes, it->length, &length,
+                                              (uint8_t)(i + 1 == count));
+        if (error != 0) return error;
+        if (is_block) it->length = (uint16_t)length;
+    }
+    return (int32_t)count;
+}
+#endif
 
 #ifdef __cplusplus
 }

@@ -5,7 +5,8 @@
 
 The header is C in one style: a comment stands in front of what it is about, which goes up to the next
 empty line, a section begins with a comment `---- NAME`, and there is one declaration at a time. What it can't read it refuses with the
-line, so that nothing is left out in silence."""
+line, so that nothing is left out in silence. Of a function with a body, `static inline`, the body is
+passed over: no other file need know it."""
 import re
 from typing import List, NamedTuple, Optional, Tuple
 
@@ -17,7 +18,7 @@ class Unreadable(Exception):
 class Item(NamedTuple):
     """A part of the header."""
 
-    kind: str  # head, section, constant, enum, struct, function, callback or opaque
+    kind: str  # head, section, constant, enum, struct, function, inline, callback or opaque
     name: str
     comment: List[str]  # the lines of the comment in front, without its marks
     code: str  # as it stands in the header, with the comments in it
@@ -35,7 +36,8 @@ FORMS = (
 COMMENT = re.compile(r"/\*.*?\*/", re.S)
 CONSTANT = re.compile(r"#define (PMB_[A-Z0-9_]+) (\S+)")
 # What frames the header: it declares nothing.
-FRAME = re.compile(r"#(?:ifndef|ifdef|endif|include|define PMB_H$)|extern \"C\" \{$|\}$")
+FRAME = re.compile(r"#(?:if|ifndef|ifdef|endif|include|define PMB_H$)\b|extern \"C\" \{$|\}$")
+INLINE = "static inline "
 
 
 def lines_of(comment: str) -> List[str]:
@@ -54,24 +56,29 @@ def plain(code: str) -> str:
 
 
 def end_of_declaration(text: str, at: int) -> int:
-    """The place after the `;` that ends a declaration, which is in no braces and in no comment."""
+    """The place after the `;` that ends a declaration, or the `}` that ends a function's body. It is in no
+    braces and in no comment."""
     depth, place = 0, at
+    last = "}" if text.startswith(INLINE, at) else ";"
     while place < len(text):
         if text.startswith("/*", place):
             place = text.index("*/", place) + 2
             continue
         depth += {"{": 1, "}": -1}.get(text[place], 0)
         place += 1
-        if text[place - 1] == ";" and depth == 0:
+        if text[place - 1] == last and depth == 0:
             return place
     raise Unreadable("a declaration has no end: " + text[at:].split("\n")[0])
 
 
 def declaration(code: str, comment: List[str]) -> Item:
+    if code.startswith(INLINE):
+        code = code[: code.index("{")].rstrip() + ";"
     words = plain(code)
     for kind, form in FORMS:
         match = form.fullmatch(words)
         if match:
+            kind = "inline" if code.startswith(INLINE) else kind
             return Item(kind, match[1], comment, code, words)
     raise Unreadable("a declaration in no known form: " + words)
 

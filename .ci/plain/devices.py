@@ -5,7 +5,7 @@ from .lines import Ask, Get, Set
 from .notes import number_format
 from .numbers import Fault
 from .packets import SIZES, Call, Part, Read, Refused, Write, check_parts, check_pec, fits
-from .profiles import ALL_PAGES
+from .profiles import ALL_PAGES, PROTECTIONS
 
 BAD_COMMAND, BAD_VALUE = 0x80, 0x40
 
@@ -55,8 +55,18 @@ class SimulatedDevice:
         _, m, b, r = coefficients
         return (m & 255, m >> 8 & 255, b & 255, b >> 8 & 255, r & 255), None
 
+    def is_enabled(self, code, data):
+        """Whether a device that keeps to WRITE_PROTECT lets a write act."""
+        if code == 0x10:
+            return data[0] in PROTECTIONS
+        enabled = PROTECTIONS[self.register(0, self.device.entry(0x10))[0]]
+        return enabled is None or code in enabled
+
     def write(self, code, data):
-        """A part of a write takes effect."""
+        """A part of a write takes effect, or is disabled."""
+        if self.device.protect and not self.is_enabled(code, data):
+            self.note(BAD_VALUE)
+            return
         entry = self.device.entry(code)
         if code == 0x00:
             self.page = data[0]

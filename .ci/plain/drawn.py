@@ -13,11 +13,11 @@ PROFILES = (
     ([], profiles.VOLTS_TEXT + b"%%\n", profiles.VOLTS),
     ([], profiles.NAMED_TEXT + b"%%\n", profiles.NAMED),
 )
-OFTEN = (0x00, 0x01, 0x03, 0x04, 0x1B, 0x20, 0x21, 0x22, 0x25, 0x30, 0x79, 0x7E, 0x88, 0x8C, 0x99)
+OFTEN = (0x00, 0x01, 0x02, 0x03, 0x04, 0x10, 0x1B, 0x20, 0x21, 0x22, 0x25, 0x30, 0x79, 0x7E, 0x88, 0x8C, 0x99)
 
 
 def some_bytes(chance, count):
-    likely = (0, 1, 0x20, 0x21, 0xFF)
+    likely = (0, 1, 0x20, 0x21, 0x40, 0x80, 0xFF)
     return tuple(chance.choice((*likely, chance.randrange(256))) for _ in range(count))
 
 
@@ -229,7 +229,7 @@ def spoiled(chance, table, seldom=0.01):
     table = {key: value for key, value in table.items() if value is not None}
     if chance.random() < seldom:
         keys = ("colour", "m", "code", "name", "address", "vid", "unsigned", "exponent", "unit",
-                "bits", "phased", "phases")
+                "bits", "phased", "phases", "protect")
         table[chance.choice(keys)] = 1
     for key in list(table):
         if chance.random() < seldom:
@@ -279,6 +279,7 @@ def device_table(chance):
         "name": often(chance, 0.4, device_name(chance)),
         "vid": often(chance, 0.5, vid_tables(chance, pages or 1)),
         "phases": often(chance, 0.35, 1, 2, 4, 255, chance.choice((0, 2, 2, 256))),
+        "protect": often(chance, 0.3, True, True, True, False),
     })
 
 
@@ -390,6 +391,8 @@ def command_table(chance, pages):
         if chance.random() < 0.2:
             size = 1 if "STATUS_CML" == command["name"] else 2
             command["initial"] = of_each_page(chance, pages, lambda: digits(chance, size))
+        if command["name"] == "WRITE_PROTECT":
+            command["initial"] = often(chance, 0.5, "80", "40", "20", "00", "41")
     return spoiled(chance, command)
 
 

@@ -71,6 +71,10 @@ class Entry(NamedTuple):
         return self.initial[page] if isinstance(self.initial, list) else self.initial
 
 
+# The values of WRITE_PROTECT, and the other commands that may be written under each; None: all.
+PROTECTIONS = {0x80: (), 0x40: (0x00, 0x01), 0x20: (0x00, 0x01, 0x02, 0x21), 0x00: None}
+
+
 class Device(NamedTuple):
     address: int
     pec: str
@@ -80,6 +84,7 @@ class Device(NamedTuple):
     name: Optional[str] = None
     vid: Union[str, list, dict, None] = None  # a table, one for each page, or some by types
     phases: Optional[int] = None
+    protect: bool = False  # whether it keeps to WRITE_PROTECT
 
     @property
     def pages(self):
@@ -684,6 +689,12 @@ FAULTS = {
     ONE + b"phases = 0\n": "BadValue in device 0",
     ONE + b"phases = 256\nvid = 'vr14'\n": "BadValue in device 0",
     ONE + b"phases = '1'\nvid = 1\n": "WrongType in device 0",
+    ONE + b"protect = 1\n": "WrongType in device 0",
+    ONE + b"protect = true\nstandard = false\n": "BadValue in device 0",
+    ONE + b"protect = true\ncommand = [{ name = 'WRITE_PROTECT', paged = true }]\n":
+        "BadValue in device 0",
+    ONE + b"protect = true\ncommand = [{ name = 'WRITE_PROTECT', initial = '01' }]\n":
+        "BadInitial in device 0",
     COMMAND + b"name = 'MFR_ID'\nunit = 'V'\n": "UnknownKey in device 0 command 0",
     COMMAND + b"name = 'READ_VIN'\nunit = ''\nbits = 1\n": "BadValue in device 0 command 0",
     COMMAND + b"name = 'READ_VIN'\nbits = {}\n": "UnknownKey in device 0 command 0",

@@ -5,7 +5,7 @@ import re
 
 from .numbers import TABLES, Fault, direct
 from .packets import SIZES
-from .profiles import STANDARD, Device, Entry, Profile
+from .profiles import PROTECTIONS, STANDARD, Device, Entry, Profile
 
 NAMED = {entry.name: entry for entry in STANDARD}
 CODED = {entry.code: entry for entry in STANDARD}
@@ -19,7 +19,7 @@ KINDS = ("raw", "linear11", "vout", "vout_signed", "direct", "status", "half", *
          *("vid:" + table for table in TABLES), "text")
 TYPES = [str(number) for number in range(32)]  # of VID tables, as keys
 DEVICE_KEYS = ("address", "pec", "pages", "vout_mode", "standard", "vout_direct", "command", "name",
-               "vid", "phases")
+               "vid", "phases", "protect")
 COMMAND_KEYS = ("code", "name", *WORDS, "kind", "m", "b", "r", "exponent", "paged", "initial",
                 "unsigned", "unit", "bits", "phased")
 
@@ -54,6 +54,7 @@ def profile_of(table):
         for j, command in enumerate(one.get("command", [])):
             device = placed("%s command %d" % (place, j), with_command, device, one, j, command)
         placed(place, modes_go_together, device)
+        placed(place, can_protect, device)
         devices.append(device)
     return Profile(tuple(devices), ignored)
 
@@ -101,7 +102,8 @@ def device_of(table, before, ignored):
     vid = vid_of(table["vid"], pages) if "vid" in table else None
     phases = value_of(table, "phases", int)
     need(phases is None or 1 <= phases <= 255, "BadValue")
-    return Device(address, pec, entries, modes, vout_direct, name, vid, phases)
+    protect = value_of(table, "protect", bool, False)
+    return Device(address, pec, entries, modes, vout_direct, name, vid, phases, protect)
 
 
 def modes_of(value, pages):
@@ -139,6 +141,15 @@ def modes_go_together(device):
     """A VOUT_MODE that is not paged is one for all pages."""
     entry = device.entry(0x20)
     need(entry is None or entry.paged or len(set(device.modes)) == 1, "BadValue")
+
+
+def can_protect(device):
+    """A device that keeps to WRITE_PROTECT has it as one byte, which begins with one of its values."""
+    if device.protect:
+        entry = device.entry(0x10)
+        need(entry and entry.write == "one" and entry.read == "one", "BadValue")
+        need(not entry.paged and entry.kind != "status", "BadValue")
+        need(entry.initial is None or entry.initial[0] in PROTECTIONS, "BadInitial")
 
 
 def coefficients(table):

@@ -16,15 +16,24 @@ devices under a profile; recordings of analysers and of the Linux kernel.
     >>> [event.byte for event in pmb.events("S b0 A 21 A P") if event.kind == "byte"]
     [176, 33]
 
-A `Profile` is read once for many calls:
+A `Profile` is read once for many calls, and a `Reader` takes a capture in pieces.
 
     >>> with pmb.Profile(profile) as opened:
     ...     print([opened.check(capture).packets for capture in ("", "S b0 A 03 A P")])
     [0, 1]
 
-Every call may be made from several threads side by side. What is returned, but for the iterator of
-`events`, and each error can be pickled and copied, and so goes through pools of processes; so does a
-`Profile`. An argument of another type is a `TypeError`
+A `Bus` has the devices of a profile, simulated, and the methods of `smbus2.SMBus`. A `Device` is
+read and written by the names of its commands, on such a bus or on a real one.
+
+    >>> with pmb.Bus(profile) as bus:
+    ...     device = pmb.Device(bus, profile, 0x58)
+    ...     device["VOUT_COMMAND"] = 12
+    ...     print(device["VOUT_COMMAND"])
+    12 V
+
+Every call may be made from several threads side by side. What is returned, but for the iterators of
+`events` and of `transactions` of a file or a stream, and each error can be pickled and copied, and
+so goes through pools of processes; so does a `Profile`. An argument of another type is a `TypeError`
 that names it. `pmb.objects` has the types of the objects that `transactions` gives, and
 `python3 -m pmb` is the program.
 """
@@ -42,6 +51,10 @@ from decimal import Decimal
 from fractions import Fraction
 from typing import (
     Any,
+    AsyncIterable,
+    AsyncIterator,
+    Awaitable,
+    Callable,
     Iterable,
     Iterator,
     List,
@@ -49,6 +62,7 @@ from typing import (
     Optional,
     Tuple,
     Union,
+    overload,
 )
 
 from . import objects as objects
@@ -61,22 +75,30 @@ from ._library import Lexer as _Lexer
 from ._library import Quantity as _Quantity
 from ._library import Recorder as _Recorder
 from ._library import Result as _Result
-from ._texts import Content
-from ._texts import bytes_of as _bytes
-from ._texts import wrong_type as _wrong_type
+from ._pieces import Content
+from ._pieces import Pieces as _Pieces
+from ._pieces import awaited_pieces as _awaited_pieces
+from ._pieces import bytes_of as _bytes
+from ._pieces import pieces_of as _pieces_of
+from ._pieces import wrong_type as _wrong_type
 
 __version__ = "0.1.0"
 
 # (not `json`, which `from pmb import *` would put in the place of Python's own; and no module)
 __all__ = [
+    "Bus",
+    "Device",
     "Error",
     "Event",
     "Format",
     "LineError",
     "Profile",
     "ProfileError",
+    "Reader",
+    "Reading",
     "Text",
     "TokenError",
+    "TransferError",
     "bit_name",
     "build",
     "check",
@@ -84,6 +106,7 @@ __all__ = [
     "decode",
     "encode",
     "events",
+    "i2c_msg",
     "imported",
     "pec",
     "quantity",
@@ -96,6 +119,8 @@ __all__ = [
 
 # What an older library lacks.
 _HAS_PROFILES = hasattr(_LIBRARY, "pmb_profile_open")
+_HAS_READERS = hasattr(_LIBRARY, "pmb_reader_open")
+_HAS_BUSES = hasattr(_LIBRARY, "pmb_bus_open")
 
 # The names of the faults, which are those that the program `pmb` prints, by the library's statuses.
 _FAULTS = {
@@ -118,7 +143,7 @@ _FAULTS = {
     24: "Off",
 }
 _OK, _NO_NAME, _NO_ROOM, _BAD_PROFILE, _NO_MEMORY, _BAD_CHOICE = 0, 15, 16, 17, 18, 19
-_NO_EVENT, _BAD_TOKEN = 20, 21
+_NO_EVENT, _BAD_TOKEN, _ENDED = 20, 21, 26
 
 # The kinds of events, by the library's numbers.
 _KINDS = ("start", "byte", "ack", "nack", "stop")
@@ -676,17 +701,46 @@ def json(
     return _text(_JSON, profile, _bytes("capture", capture), *choice)
 
 
+@overload
 def transactions(
     profile: _Profiled,
-    capture: Content,
+    capture: Union[Content, Iterable[Content]],
     devices: _Devices = None,
     digits: int = 6,
     late: bool = False,
     fixed_vout_mode: bool = False,
     keep_going: bool = False,
-) -> Iterator[objects.Object]:
+) -> Iterator[objects.Object]: ...
+
+
+@overload
+def transactions(
+    profile: _Profiled,
+    capture: AsyncIterable[Content],
+    devices: _Devices = None,
+    digits: int = 6,
+    late: bool = False,
+    fixed_vout_mode: bool = False,
+    keep_going: bool = False,
+) -> AsyncIterator[objects.Object]: ...
+
+
+def transactions(
+    profile: _Profiled,
+    capture: Any,
+    devices: _Devices = None,
+    digits: int = 6,
+    late: bool = False,
+    fixed_vout_mode: bool = False,
+    keep_going: bool = False,
+) -> Any:
     """The packets of a capture in their order, and its refusals and bad words: dicts, those of `pmb
     json` without the counts at the end. Options and errors are those of `json`.
+
+    A capture is a text; or a file, such as a pipe or what `socket.makefile` gives; or an iterable of
+    pieces of a text, cut anywhere. It is read as it comes, at most 16 KB at a time, and the objects of
+    a packet are there when the byte after its last word has come. An `asyncio.StreamReader` and an
+    asynchronous iterable of pieces are read so too: what is returned is iterated by `async for` then.
 
     Each has a `kind`, and `pmb.objects` has a type for each kind. A `time` is a text, and is there
     where a comment tells it. A voltage whose VOUT_MODE the capture has not told has `"mode":
@@ -704,8 +758,18 @@ def transactions(
         ('58', True)
     """
     choice = _choice(devices, digits, late, fixed_vout_mode, keep_going)
-    room, told = _whole(_JSON, profile, _bytes("capture", capture), *choice)
-    return _Objects(_Written(room, told.length))
+    is_whole = isinstance(capture, (str, bytes, bytearray, memoryview))
+    if is_whole and not _HAS_READERS:
+        room, told = _whole(_JSON, profile, _bytes("capture", capture), *choice)
+        return _Objects(_Written(room, told.length))
+    if hasattr(capture, "__aiter__"):
+        if not _HAS_READERS:
+            raise _older("pmb_reader_open")
+        return _AsyncObjects(Reader._of(profile, choice), _awaited_pieces(capture))
+    pieces = _pieces_of(capture)
+    if not _HAS_READERS:
+        raise _older("pmb_reader_open")
+    return _Objects(_Lines(Reader._of(profile, choice), pieces), is_whole)
 
 
 def imported(
@@ -831,15 +895,37 @@ class Profile:
         """
         return json(self, capture, devices, digits, late, fixed_vout_mode, keep_going)
 
+    @overload
     def transactions(
         self,
-        capture: Content,
+        capture: Union[Content, Iterable[Content]],
         devices: _Devices = None,
         digits: int = 6,
         late: bool = False,
         fixed_vout_mode: bool = False,
         keep_going: bool = False,
-    ) -> Iterator[objects.Object]:
+    ) -> Iterator[objects.Object]: ...
+
+    @overload
+    def transactions(
+        self,
+        capture: AsyncIterable[Content],
+        devices: _Devices = None,
+        digits: int = 6,
+        late: bool = False,
+        fixed_vout_mode: bool = False,
+        keep_going: bool = False,
+    ) -> AsyncIterator[objects.Object]: ...
+
+    def transactions(
+        self,
+        capture: Any,
+        devices: _Devices = None,
+        digits: int = 6,
+        late: bool = False,
+        fixed_vout_mode: bool = False,
+        keep_going: bool = False,
+    ) -> Any:
         """What `pmb.transactions` returns under this profile. It may be closed meanwhile.
 
             >>> import pmb
@@ -851,7 +937,7 @@ class Profile:
         return transactions(self, capture, devices, digits, late, fixed_vout_mode, keep_going)
 
     def close(self) -> None:
-        """Gives the memory back. Calls that are under way go on. To close it again does
+        """Gives the memory back. Calls and readers that are under way go on. To close it again does
         nothing, and each other call is a `ValueError` from then on.
 
             >>> import pmb
@@ -911,6 +997,222 @@ class Profile:
                 # (the last that knows a handle closes it)
                 if not self.closed:
                     self._free.append(handle)
+
+
+class Reader:
+    """Reads a capture whose text comes in pieces, cut anywhere: each piece is given to `feed`, which
+    returns the objects of what it completes, and `end` returns those of the end. Together they are
+    those of `transactions`, whose options a reader has.
+
+        >>> import pmb
+        >>> profile = "[[device]]\\naddress = 0x58\\npec = 'optional'"
+        >>> reader = pmb.Reader(profile, devices=[0x58])
+        >>> for piece in (b"S b0 A 03 A", b" P\\nS b0 A 2", b"1 A"):
+        ...     print([it["command"] for it in reader.feed(piece)])
+        []
+        ['CLEAR_FAULTS']
+        []
+        >>> [(it["kind"], it["reason"]) for it in reader.end()]
+        [('refusal', 'Truncated')]
+        >>> reader
+        <pmb.Reader: 1 packets, 1 refusals, ended>
+
+    A profile is a `Profile`, which may be closed before the reader, or a text, for which a
+    `ProfileError` may be raised. Objects of these devices are wanted, and all where none is named.
+
+    A `with` block closes the reader at its end, and doesn't give it the capture's: call `end` first,
+    if the capture is over. Calls of several threads come one after the other. There is no copy of a
+    reader, since it stands in the middle of a capture.
+    """
+
+    def __init__(
+        self,
+        profile: _Profiled,
+        *,
+        devices: _Devices = None,
+        digits: int = 6,
+        late: bool = False,
+        fixed_vout_mode: bool = False,
+        keep_going: bool = False,
+    ) -> None:
+        choice = _choice(devices, digits, late, fixed_vout_mode, keep_going)
+        self._begin(profile, choice)
+
+    @classmethod
+    def _of(cls, profile: _Profiled, choice: _Chosen) -> "Reader":
+        made = cls.__new__(cls)
+        made._begin(profile, choice)
+        return made
+
+    def _begin(self, profile: _Profiled, choice: _Chosen) -> None:
+        self._lock = threading.RLock()
+        self._packets = self._refusals = 0
+        self._ended = self._failed = False
+        self._told = _Result()
+        self._told_at = ctypes.byref(self._told)
+        self._make_room(_BESIDES)
+        opened = profile if isinstance(profile, Profile) else Profile(_profile_bytes(profile))
+        self._handle: Optional[_Handle] = _new_handle("pmb_reader")
+        with opened._lent() as under:
+            _raise_status(_LIBRARY.pmb_reader_open(self._handle.at, under.at, *choice))
+
+    def feed(self, data: Content) -> List[objects.Object]:
+        """The objects of what the next piece of the capture completes. A piece may have any length,
+        and be cut in the middle of a word: the word that it ends with waits for what follows.
+
+        After the end, also after a word that is no token, nothing is read: the list is empty. Where
+        the library has no memory to read on, the objects before that are returned, and the next call
+        is a `MemoryError`.
+
+            >>> import pmb
+            >>> reader = pmb.Reader("[[device]]\\naddress = 0x58\\npec = 'optional'")
+            >>> reader.feed("S b0 A 03 A P"), len(reader.feed("\\n"))
+            ([], 1)
+        """
+        found: List[objects.Object] = []
+        with self._lock:
+            self._opened()
+            for piece in _Pieces("data", [data]):
+                try:
+                    found += _parsed(self._completed(piece))
+                except MemoryError:
+                    self._failed = True
+                    if not found:
+                        raise
+                    break
+                if self._ended:
+                    break
+        return found
+
+    def end(self) -> List[objects.Object]:
+        """The objects of the end of the capture: of a packet whose last word it ends, or of an end
+        inside a packet. A second time there are none.
+
+            >>> import pmb
+            >>> reader = pmb.Reader("[[device]]\\naddress = 0x58\\npec = 'optional'")
+            >>> len(reader.feed("S b0 A 03 A P")), len(reader.end()), len(reader.end())
+            (0, 1, 0)
+        """
+        with self._lock:
+            return _parsed(self._last())
+
+    @property
+    def packets(self) -> int:
+        """How many packets there were so far; those to addresses that the profile ignores don't count.
+
+            >>> import pmb
+            >>> reader = pmb.Reader("[[device]]\\naddress = 0x58\\npec = 'optional'")
+            >>> found = reader.feed("S b0 A 03 A P " * 1000)
+            >>> reader.packets, len(found)
+            (1000, 1000)
+        """
+        return self._packets
+
+    @property
+    def refusals(self) -> int:
+        """How many refusals there were so far, words that are no token among them.
+
+            >>> import pmb
+            >>> reader = pmb.Reader("device = []")
+            >>> found = reader.feed("S b0 A 03 A P ")
+            >>> reader.refusals, found[0]["reason"]
+            (1, 'UnknownDevice')
+        """
+        return self._refusals
+
+    @property
+    def ended(self) -> bool:
+        """Whether reading has ended: by `end`, or at a word that is no token, unless it is to go on.
+
+            >>> import pmb
+            >>> reader = pmb.Reader("device = []")
+            >>> reader.feed("hm "), reader.ended
+            ([{'at': 0, 'line': 1, 'column': 1, 'kind': 'bad_token', 'word': 'hm'}], True)
+        """
+        return self._ended
+
+    def close(self) -> None:
+        """Gives the memory back. To close it again does nothing. `feed` and `end` are a `ValueError`
+        from then on.
+
+            >>> import pmb
+            >>> reader = pmb.Reader("device = []")
+            >>> reader.close()
+            >>> reader.feed("S")
+            Traceback (most recent call last):
+            ValueError: the reader is closed
+        """
+        with self._lock:
+            self._handle = None
+
+    @property
+    def closed(self) -> bool:
+        """Whether it is closed.
+
+            >>> import pmb
+            >>> with pmb.Reader("device = []") as reader:
+            ...     print(reader.closed)
+            False
+            >>> reader.closed
+            True
+        """
+        return self._handle is None
+
+    def __enter__(self) -> "Reader":
+        self._opened()
+        return self
+
+    def __exit__(self, kind: object, error: object, trace: object) -> None:
+        self.close()
+
+    def __repr__(self) -> str:
+        state = ", closed" if self.closed else ", ended" if self._ended else ""
+        return "<pmb.Reader: {} packets, {} refusals{}>".format(
+            self._packets, self._refusals, state
+        )
+
+    def __reduce__(self) -> Tuple[Any, ...]:
+        raise TypeError("a pmb.Reader has no copy, since it stands in the middle of a capture")
+
+    def _opened(self) -> "_Handle":
+        handle = self._handle
+        if handle is None:
+            raise ValueError("the reader is closed")
+        if self._failed:
+            raise MemoryError("no memory to read on")
+        return handle
+
+    def _completed(self, piece: bytes) -> str:
+        """The lines of the objects that a piece completes."""
+        with self._lock:
+            at = self._opened().at
+            return self._taken(at, _LIBRARY.pmb_reader_feed(at, piece, len(piece)))
+
+    def _last(self) -> str:
+        """The lines of the objects of the end."""
+        with self._lock:
+            at = self._opened().at
+            return self._taken(at, _LIBRARY.pmb_reader_end(at))
+
+    def _taken(self, at: Any, status: int) -> str:
+        """The lines that are ready after a call, which had this status."""
+        self._ended = self._ended or status == _ENDED
+        told, lines = self._told, ""
+        while True:
+            length = _LIBRARY.pmb_reader_take(at, self._room, len(self._room), self._told_at)
+            lines += str(self._written[:length], "ascii")
+            if told.status != _NO_ROOM:
+                break
+            # (room for all, which the next pieces need too)
+            self._make_room(told.length)
+        self._packets, self._refusals = told.packets, told.refusals
+        if status == _NO_MEMORY:
+            raise MemoryError("no memory to read on")
+        return lines
+
+    def _make_room(self, size: int) -> None:
+        self._room = ctypes.create_string_buffer(size)
+        self._written = memoryview(self._room)
 
 
 class _Handle:
@@ -996,11 +1298,27 @@ def _give_back(room: mmap.mmap, start: int, length: int) -> None:
             advise(mmap.MADV_DONTNEED, start, length)
 
 
-class _Objects(Iterator[objects.Object]):
-    """The objects of lines that come in parts."""
+class _Lines(Iterator[str]):
+    """The lines of the objects of a capture, for one piece after the other."""
 
-    def __init__(self, lines: Iterable[str]) -> None:
-        self._lines = iter(lines)
+    def __init__(self, reader: Reader, pieces: Iterator[bytes]) -> None:
+        self._reader, self._pieces = reader, pieces
+
+    def __next__(self) -> str:
+        if self._reader.ended:
+            raise StopIteration
+        try:
+            piece = next(self._pieces)
+        except StopIteration:
+            return self._reader._last()
+        return self._reader._completed(piece)
+
+
+class _Objects(Iterator[objects.Object]):
+    """The objects of lines that come in parts. Where these are those of a text there is a copy."""
+
+    def __init__(self, lines: Iterable[str], is_whole: bool = True) -> None:
+        self._lines, self._is_whole = iter(lines), is_whole
         self._ready: Iterator[objects.Object] = iter(())
         self._lock = threading.RLock()
 
@@ -1023,11 +1341,43 @@ class _Objects(Iterator[objects.Object]):
 
     # A copy has what is not read yet, as lines.
     def __reduce__(self) -> Tuple[Any, ...]:
+        if not self._is_whole:
+            raise TypeError("the objects of a file or a stream have no copy: make a list of them")
         with self._lock:
             ready = "".join(_json.dumps(it) + "\n" for it in self._ready)
             rest = [ready, *self._lines]
             self._lines = iter(rest)
         return _Objects, (rest,)
+
+
+class _AsyncObjects(AsyncIterator[objects.Object]):
+    """The objects of a capture whose pieces are waited for."""
+
+    def __init__(self, reader: Reader, read: Callable[[], Awaitable[Content]]) -> None:
+        self._reader, self._read = reader, read
+        self._pieces: Iterator[bytes] = iter(())
+        self._ready: Iterator[objects.Object] = iter(())
+
+    async def __anext__(self) -> objects.Object:
+        while True:
+            for it in self._ready:
+                return it
+            if self._reader.ended:
+                raise StopAsyncIteration
+            self._ready = iter(_parsed(await self._next_lines()))
+
+    async def _next_lines(self) -> str:
+        for piece in self._pieces:
+            return self._reader._completed(piece)
+        try:
+            given = await self._read()
+        except StopAsyncIteration:
+            return self._reader._last()
+        self._pieces = _Pieces("a piece of capture", [given])
+        return ""
+
+    def __reduce__(self) -> Tuple[Any, ...]:
+        raise TypeError("the objects of a stream have no copy: make a list of them")
 
 
 def _event(event: _Event) -> Event:
@@ -1385,3 +1735,22 @@ def _raise_format_fault(named: _Format) -> None:
 
 def _is_of_format(status: int) -> bool:
     return 3 <= status <= 10
+
+
+# (these stand on what is above)
+from ._bus import Bus as Bus  # noqa: E402
+from ._bus import i2c_msg as i2c_msg  # noqa: E402
+from ._device import Device as Device  # noqa: E402
+from ._reading import Reading as Reading  # noqa: E402
+from ._reading import TransferError as TransferError  # noqa: E402
+
+if not _HAS_BUSES:
+    # (an older library)
+    for _name in ("Bus", "Device", "Reading", "TransferError", "i2c_msg"):
+        __all__.remove(_name)
+        del globals()[_name]
+
+if not _HAS_READERS:
+    # (an older library: a capture that comes in pieces is a NotImplementedError)
+    __all__.remove("Reader")
+    del globals()["Reader"]

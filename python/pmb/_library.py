@@ -79,7 +79,7 @@ def released() -> str:
 
 
 # What an older library lacks.
-_LATER = ("pmb_import", "pmb_profile_")
+_LATER = ("pmb_import", "pmb_profile_", "pmb_reader_", "pmb_bus_")
 
 
 def _load() -> ctypes.CDLL:
@@ -101,6 +101,7 @@ def _load() -> ctypes.CDLL:
     recorder = [ctypes.POINTER(Recorder), text, size]
     handle, result_at = ctypes.POINTER(Held), ctypes.POINTER(Result)
     under = [handle, text, size]
+    message = [ctypes.c_uint16, ctypes.c_uint16, ctypes.c_void_p, size, size_at, byte]
     for name, result, arguments in (
         ("pmb_version", ctypes.c_uint32, []),
         ("pmb_pec", byte, [byte, text, size]),
@@ -127,6 +128,16 @@ def _load() -> ctypes.CDLL:
         ("pmb_profile_build", size, under + room),
         ("pmb_profile_run", size, under + room),
         ("pmb_profile_json", size, under + choice + room),
+        ("pmb_reader_open", status, [handle, handle] + choice),
+        ("pmb_reader_feed", status, [handle, text, size]),
+        ("pmb_reader_end", status, [handle]),
+        ("pmb_reader_take", size, [handle] + room),
+        ("pmb_reader_close", None, [handle]),
+        ("pmb_bus_open", status, [handle, handle]),
+        ("pmb_bus_message", status, [handle, *message]),
+        ("pmb_bus_request", status, under + [result_at]),
+        ("pmb_bus_events", size, [handle] + room),
+        ("pmb_bus_close", None, [handle]),
     ):
         # (a library that was put in the place of the package's own may be older)
         if not hasattr(library, name) and name.startswith(_LATER):

@@ -26,6 +26,8 @@ use Rattle.pmb_c.specs.Whole.{StaysUnchosen}
 abbrev pub profile_in : Option Held → Option ProfileParts
 profile_in None = None
 profile_in (Some (held.Profile shared)) = Some (arc_value shared)
+profile_in (Some (held.Reader kept)) = None
+profile_in (Some (held.Bus kept)) = None
 
 -- ---- opening
 

@@ -4,3 +4,5 @@ pub mod Explain
 pub mod Whole
 pub mod Recorder
 pub mod Handle
+pub mod Reader
+pub mod Bus

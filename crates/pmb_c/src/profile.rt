@@ -209,6 +209,8 @@ pub(crate) fn lent(
             Ok(profile) => Ok(profile),
             Err(_) => Err(CallStatus::NoMemory),
         },
+        Held::Reader(_) => Err(CallStatus::Closed),
+        Held::Bus(_) => Err(CallStatus::Closed),
     };
     *handle = PmbHandle::of(held);
     lent

@@ -3,4 +3,5 @@ pub mod Ready
 pub mod Fresh
 pub mod Reader
 pub mod Ground
+pub mod Work
 pub mod machine

@@ -6,7 +6,7 @@
 //! all that a reader borrows, for who keeps the two together.
 //!
 //! ```rust
-//! let mut reader = CaptureReader::new(rt.alloc(), &profile, choice, AfterBadToken::End);
+//! let mut reader = CaptureReader::new(rt.alloc(), &profile, choice, AfterBadToken::End)?;
 //! let mut room = [0; 256];
 //! assert_eq!(rt; reader.feed(b"S b0 A 21 A 00 A 18 A f8 A"), Fed::More);
 //! assert_eq!(rt; reader.ready(), 0);
@@ -19,6 +19,8 @@ mod fresh;
 mod queue;
 mod reader;
 mod reader_ground;
+mod work;
 
 pub use reader::{CaptureReader, Fed};
 pub use reader_ground::ReaderGround;
+pub use work::{Answer, Task, Work};

@@ -2,16 +2,16 @@
 //!
 //! A call's lines go from the teller through `waiting` to `fresh`, and from there to the queue once all of
 //! them are made. So where memory is refused, nothing of the call is ready, and all that was ready before
-//! still is. `waiting` has 32 KB, which no call clears.
+//! still is. `waiting` has 32 KB, which no call clears; it and the teller's 60 KB are on the heap.
 //!
 //! Its rows: `tests_tasks`, `src/capture_reader.rt`.
 
-ghost use Rattle.std.specs.Prelude.{◌≡◌, ◌≢◌, ◌++◌, [], ℕ, List, drop, take, length, min};
+ghost use Rattle.std.specs.Prelude.{◌≡◌, ◌≢◌, ◌++◌, [], ℕ, IfOk, List, drop, take, length, min};
 ghost use Rattle.pmb_capture_reader.specs.Fed.{given_with};
 ghost use Rattle.pmb_capture_reader.specs.Fresh.{fresh_bytes};
-ghost use Rattle.pmb_capture_reader.specs.Ground.{ground_choice, ground_profile};
 ghost use Rattle.pmb_capture_reader.specs.Reader.{ReaderStands, reader_ready, reader_state, reader_tally};
 ghost use Rattle.pmb_capture_reader.specs.Ready.{Begins};
+ghost use Rattle.pmb_capture_reader.specs.Work.{StandsFresh};
 ghost use Rattle.pmb_capture_reader.specs.machine.Steps.{AfterPiece, AfterEnd, Gathers};
 ghost use Rattle.pmb_command.specs.Parts.{DeviceParts};
 ghost use Rattle.pmb_fact_stream.specs.Choice.{ChoiceData, choice_data};
@@ -27,7 +27,7 @@ use pmb_io::{Flow, Tally, Waiting, send};
 use pmb_table::{BusProfile, Profile};
 use pmb_telling::laws::tellers_have_told;
 use pmb_telling::{AfterBadToken, CaptureTeller};
-use std::alloc::Global;
+use std::alloc::{AllocError, Global};
 
 /// How much more a reader takes.
 #[derive(Clone, Copy, Debug, PartialEq, Eq)]
@@ -46,7 +46,7 @@ pub enum Fed {
 pub struct CaptureReader<'p> {
     teller: CaptureTeller<'p>,
     /// Lines on their way to `fresh`.
-    waiting: Waiting,
+    waiting: Box<Waiting>,
     /// What the last call made.
     fresh: Fresh,
     /// What is ready.
@@ -55,16 +55,20 @@ pub struct CaptureReader<'p> {
 }
 
 impl<'p> CaptureReader<'p> {
-    /// Nothing was given yet. It takes no memory.
+    /// Nothing was given yet.
+    ///
+    /// # Errors
+    ///
+    /// There was no memory.
     pub fn new(
         alloc: Global,
         profile: &'p Profile,
         choice: Choice<'p>,
         bad_words: AfterBadToken,
-    ) -> CaptureReader<'p>
-        ensures stands { ReaderStands (choice_data choice.entry) profile.now bad_words [] [] result }
-        ensures state { reader_state result ≡ Fed.More }
-        ensures ready { reader_ready result ≡ [] }
+    ) -> Result<CaptureReader<'p>, AllocError>
+        ensures stands { IfOk result (λ reader. ReaderStands (choice_data choice.entry) profile.now bad_words [] [] reader) }
+        ensures state { IfOk result (λ reader. reader_state reader ≡ Fed.More) }
+        ensures ready { IfOk result (λ reader. reader_ready reader ≡ []) }
     {
         // Taken apart and made again: no struct that borrows is handed on as it came.
         let Choice {
@@ -82,22 +86,25 @@ impl<'p> CaptureReader<'p> {
             telling,
         };
         tellers_have_told();
-        let teller = CaptureTeller::new(profile, chosen, bad_words);
+        let teller = CaptureTeller::new(alloc, profile, chosen, bad_words)?;
+        let waiting = none_waiting(alloc)?;
         let queue = Queue::new(alloc);
-        CaptureReader {
+        Ok(CaptureReader {
             teller,
-            waiting: Waiting::new(),
+            waiting,
             fresh: Fresh::new(alloc),
             queue,
             state: Fed::More,
-        }
+        })
     }
 
-    /// A reader that borrows from there. It takes no memory.
-    pub fn over(alloc: Global, borrowed: &'p ReaderGround) -> CaptureReader<'p>
-        ensures stands { ReaderStands (ground_choice borrowed.now) (ground_profile borrowed.now) borrowed.now.bad_words [] [] result }
-        ensures state { reader_state result ≡ Fed.More }
-        ensures ready { reader_ready result ≡ [] }
+    /// A reader that borrows from there, to which nothing was given.
+    ///
+    /// # Errors
+    ///
+    /// There was no memory.
+    pub fn over(borrowed: &'p ReaderGround) -> Result<CaptureReader<'p>, AllocError>
+        ensures { IfOk result (λ reader. StandsFresh borrowed.now reader) }
     {
         let bus: &'p BusProfile = &borrowed.bus;
         let choice = Choice {
@@ -107,7 +114,7 @@ impl<'p> CaptureReader<'p> {
             ignored: bus.ignored(),
             telling: borrowed.telling,
         };
-        CaptureReader::new(alloc, bus.profile(), choice, borrowed.bad_words)
+        CaptureReader::new(borrowed.alloc, bus.profile(), choice, borrowed.bad_words)
     }
 
     /// Takes the next piece of the text; the lines of what it completes are ready after it. It returns how
@@ -200,7 +207,8 @@ impl<'p> CaptureReader<'p> {
         ensures refused { result ≡ Fed.Memory → reader_ready self.new ≡ reader_ready self.old }
     {
         tellers_have_told();
-        let made = tell_piece(&mut self.teller, piece, &mut self.waiting, &mut self.fresh);
+        let waiting = &mut *self.waiting;
+        let made = tell_piece(&mut self.teller, piece, waiting, &mut self.fresh);
         self.state = gather(&mut self.queue, &mut self.fresh, made);
         self.state
     }
@@ -215,9 +223,19 @@ impl<'p> CaptureReader<'p> {
         ensures ready { Begins (reader_ready self.old) (reader_ready self.new) }
         ensures refused { result ≡ Fed.Memory → reader_ready self.new ≡ reader_ready self.old }
     {
-        let made = tell_end(&mut self.teller, &mut self.waiting, &mut self.fresh);
+        let waiting = &mut *self.waiting;
+        let made = tell_end(&mut self.teller, waiting, &mut self.fresh);
         self.state = gather(&mut self.queue, &mut self.fresh, made);
         self.state
+    }
+}
+
+/// A buffer in which nothing waits. It is not inlined, so that what it is made of is off the stack after it.
+#[inline(never)]
+fn none_waiting(alloc: Global) -> Result<Box<Waiting>, AllocError> {
+    match Box::new(alloc, Waiting::new()) {
+        Ok(waiting) => Ok(waiting),
+        Err(_) => Err(AllocError),
     }
 }
 

@@ -12,7 +12,7 @@ use pmb_unknown_start::Start;
 use std::alloc::Global;
 use std::sync::Arc;
 
-/// All that a reader borrows.
+/// All that a reader borrows, and where it takes memory from.
 #[derive(Drop)]
 pub struct ReaderGround {
     /// The devices of the bus, and the addresses that it ignores.
@@ -27,5 +27,6 @@ pub struct ReaderGround {
     pub bad_words: AfterBadToken,
     /// How facts are told.
     pub telling: Telling,
+    pub alloc: Global,
     pub ghost fits: { Fits telling } by { fits_once telling },
 }

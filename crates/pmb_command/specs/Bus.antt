@@ -12,7 +12,8 @@ use Rattle.pmb_command.specs.Fitting.{is_number, kind_fits, reads_data, register
 use Rattle.pmb_command.specs.Names.{IsDeviceName, IsNameOf, IsUnit, is_name}
 use Rattle.pmb_command.specs.Parts.{CommandParts, DeviceParts, HaveOwnAddresses, HaveOwnCodes, InitialParts, Same, Each}
 use Rattle.pmb_command.specs.Parts.{NamedBit}
-use Rattle.pmb_command.specs.Parts.{VidParts, OfPages, OfTypes, all_same, has_one_mode}
+use Rattle.pmb_command.specs.Parts.{VidParts, OfPages, OfTypes, all_same, command_with, has_one_mode}
+use Rattle.pmb_command.specs.Protection.{begins_protected, can_protect}
 
 -- An address that a device may have (SMBus 3.0 appendix C): 08h to 77h, and not 0ch, the Alert
 -- Response Address.
@@ -137,6 +138,9 @@ pub record IsDevice (d : DeviceParts) : Type 0 where
   pub commands : AllByRecursion IsCommand d.commands
   -- what commands hold at first is told for each page, if by items
   pub items : AllByRecursion (λ c. HasItemForEach d.pages c.initial) d.commands
+  -- one that keeps to WRITE_PROTECT has it as a byte, which begins with one of its four values
+  pub protection : d.protect ≡ true → can_protect (command_with 0x10 d.commands) ≡ true
+  pub first_protection : d.protect ≡ true → begins_protected (command_with 0x10 d.commands) ≡ true
 
 -- A bus that a profile may describe.
 pub record IsBus (bus : List DeviceParts) : Type 0 where

@@ -41,7 +41,7 @@ pub data VidParts : Type 0 where
 
 -- a device of a bus; `name` where the profile gives one, `modes` is VOUT_MODE of each page at first,
 -- from page 0 on, `vid` are the tables of VID, and `phases` is how many phases it has, where the profile
--- tells them
+-- tells them; `protect` says whether it keeps to WRITE_PROTECT
 pub record DeviceParts : Type 0 where
   pub address : ℕ
   pub name : Option (List ℕ)
@@ -51,6 +51,7 @@ pub record DeviceParts : Type 0 where
   pub vout_direct : Option Coefficients
   pub vid : Option VidParts
   pub phases : Option ℕ
+  pub protect : Bool
   pub commands : List CommandParts
 
 -- the command with a code

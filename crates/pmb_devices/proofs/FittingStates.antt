@@ -20,8 +20,10 @@ use Rattle.pmb_command.specs.Wire as form_of
 use Rattle.pmb_transaction.specs.Body.{WriteBody, checked, forms, shape_of}
 use Rattle.pmb_registers.specs.declared.cml_bit.CmlBit.{CmlBit}
 use Rattle.pmb_registers.specs.Answer.{all_pages}
-use Rattle.pmb_registers.specs.Apply.{after_write, bit_value, changed, cleared_bits, is_status, reaches, selected_by}
-use Rattle.pmb_registers.specs.Apply.{with_bit, with_noted}
+use Rattle.pmb_registers.specs.declared.cml_bit.CmlBit.TheVariants.{BadValue}
+use Rattle.pmb_registers.specs.Apply.{after_enabled, after_write, bit_value, changed, cleared_bits, is_status, reaches}
+use Rattle.pmb_registers.specs.Apply.{selected_by, with_bit, with_noted}
+use Rattle.pmb_registers.specs.Protection.{is_enabled}
 use Rattle.pmb_registers.specs.State.{DeviceState, RegisterData, is_of_page}
 use Rattle.pmb_leg.specs.declared.place.LegPlace.{LegPlace}
 use Rattle.pmb_device.specs.Legs.{Leg, Legs, Outside, Inside, leg_place, some_is_to}
@@ -194,10 +196,10 @@ module _ (device : DeviceParts) where
           ⊎ (selected_by before.page bs ≡ all_pages)) (sym only.1)
           (here.1.0.page refl)
 
-      -- What a complete write makes of the state fits.
-      write_fits : (place : LegPlace) → TakesAll device place [] body
-          → IsState device (after_write device code content before)
-      write_fits place taken =
+      -- What a complete write makes of the state fits, where it is enabled,
+      enabled_fits : (place : LegPlace) → TakesAll device place [] body
+          → IsState device (after_enabled device code content before)
+      enabled_fits place taken =
           -- PAGE, whose code is 00h: its value is selected, and its register holds it
           if_fits (nat_eq code 0x00) _ _
           (
@@ -228,6 +230,15 @@ module _ (device : DeviceParts) where
           )
           )
           )
+
+      -- and where it may be disabled: then a bit of STATUS_CML is set.
+      write_fits : (place : LegPlace) → TakesAll device place [] body
+          → IsState device (after_write device code content before)
+      write_fits place taken =
+          if_fits (is_enabled device before code content) (after_enabled device code content before)
+          (with_bit device BadValue before)
+          (λ enabled. enabled_fits place taken)
+          (λ disabled. bit_fits BadValue)
 
     -- ---- STOP
 

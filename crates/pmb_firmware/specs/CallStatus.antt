@@ -35,6 +35,8 @@ number_of (status.Word NotANumber) = pos 22
 number_of (status.Word NoCode) = pos 23
 number_of (status.Word Off) = pos 24
 number_of status.Closed = pos 25
+number_of status.Ended = pos 26
+number_of status.Busy = pos 27
 
 -- the name of the status of a number, if it is one
 abbrev pub named : ℕ → Option (List ℕ)
@@ -65,6 +67,8 @@ named number =
     else if number == 23 then Some (codes "PMB_NO_CODE")
     else if number == 24 then Some (codes "PMB_OFF")
     else if number == 25 then Some (codes "PMB_CLOSED")
+    else if number == 26 then Some (codes "PMB_ENDED")
+    else if number == 27 then Some (codes "PMB_BUSY")
     else None
 
 -- .. of a number with a sign

@@ -34,6 +34,10 @@ pub enum CallStatus {
     Word(WordFault),
     /// The handle is not open.
     Closed,
+    /// The text has ended, or reading has: no more of it is taken.
+    Ended,
+    /// A transfer is under way: its last message was not sent.
+    Busy,
 }
 
 impl CallStatus {
@@ -68,6 +72,8 @@ impl CallStatus {
             CallStatus::Word(WordFault::NoCode) => 23,
             CallStatus::Word(WordFault::Off) => 24,
             CallStatus::Closed => 25,
+            CallStatus::Ended => 26,
+            CallStatus::Busy => 27,
         }
     }
 }

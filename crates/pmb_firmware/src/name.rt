@@ -72,6 +72,8 @@ fn named(number: u32) -> Option<&'static str>
         23 => Some("PMB_NO_CODE"),
         24 => Some("PMB_OFF"),
         25 => Some("PMB_CLOSED"),
+        26 => Some("PMB_ENDED"),
+        27 => Some("PMB_BUSY"),
         _ => None,
     }
 }

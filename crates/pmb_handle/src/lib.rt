@@ -5,6 +5,8 @@
 //! given a type with a parameter, so the static library has a struct of its own with the pointer in it;
 //! it takes that one apart into a `Maybe`, and puts it together again.
 //! [`Maybe::of`] takes the pointer of a box, and [`Maybe::into_box`] gives the box back, or nothing at null.
+//! [`Parts`] is a box in the same form that is never null: for a struct that keeps a value and what
+//! borrows it, each in a block of its own.
 //!
 //! ```rust
 //! let held = Maybe::of(Box::new(rt.alloc(), 7u8)?);
@@ -14,5 +16,7 @@
 #![tactic(auto)]
 
 mod maybe;
+mod parts;
 
 pub use maybe::Maybe;
+pub use parts::Parts;

@@ -3,6 +3,7 @@
 //! Its rows: `tests/rows/hints.txt`.
 
 use crate::draft::Draft;
+use crate::forms::parts_of;
 use crate::keyed::Keyed;
 use arrayvec::ArrayString;
 use std::fmt::Write;
@@ -49,11 +50,37 @@ pub(crate) fn modes_hint(keyed: Keyed<'_>, lines: &mut Draft) -> bool {
     count_of_pages(keyed, "vout_mode", lines)
 }
 
-/// Writes that the items of a list of VOUT_MODE differ while it has one value for all pages, if there is
-/// a list. All other values of the device are looked at before.
+/// Writes that the items of a list of VOUT_MODE differ while it has one value for all pages, if they do.
 pub(crate) fn one_mode_hint(keyed: Keyed<'_>, lines: &mut Draft) -> bool {
     let rule = "the items have to be the same, since VOUT_MODE is not paged";
-    keyed.items("vout_mode").is_some() && keyed.rule("vout_mode", rule, lines)
+    modes_differ(keyed) && has_one_mode(keyed) && keyed.rule("vout_mode", rule, lines)
+}
+
+/// Whether a list of VOUT_MODE has items that differ.
+fn modes_differ(keyed: Keyed<'_>) -> bool {
+    let Some([first, rest @ ..]) = keyed.items("vout_mode") else {
+        return false;
+    };
+    for item in rest {
+        if item.as_integer() != first.as_integer() {
+            return true;
+        }
+    }
+    false
+}
+
+/// Whether a command of a device makes its VOUT_MODE one for all pages.
+fn has_one_mode(keyed: Keyed<'_>) -> bool {
+    for value in keyed.items("command").unwrap_or(&[]) {
+        if let Some(table) = value.as_table() {
+            if let Some(parts) = parts_of(keyed.place.keys_of(table, &[])) {
+                if parts.code == 0x20 && !parts.paged {
+                    return true;
+                }
+            }
+        }
+    }
+    false
 }
 
 /// Writes an ignored address that is none of 7 bits, if there is one.

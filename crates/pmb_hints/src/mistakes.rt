@@ -127,7 +127,18 @@ const VALUES_OF_DEVICE: &[Mistake] = &[
     Mistake::Vid,
     Mistake::OutOfRange("phases", 1, 255),
     Mistake::OneMode,
+    Mistake::Key("protect", WITH_PROTECT),
 ];
+
+/// What a device that keeps to WRITE_PROTECT has to have.
+const WITH_PROTECT: &str =
+    "this needs a command 10h that is written and read as \"one\", not paged, and not of kind \"status\"";
+
+/// With which bytes WRITE_PROTECT may begin in such a device.
+const PROTECT_INITIAL: &[Mistake] = &[Mistake::Key(
+    "protect",
+    "with this the initial of command 10h is \"80\", \"40\", \"20\" or \"00\"",
+)];
 
 /// What is wrong with the types of the keys after `vout_direct`.
 const TYPES_AFTER_DIRECT: &[Mistake] = &[
@@ -135,6 +146,7 @@ const TYPES_AFTER_DIRECT: &[Mistake] = &[
     Mistake::WrongType(&["name"]),
     Mistake::VidType,
     Mistake::WrongType(&["phases"]),
+    Mistake::WrongType(&["protect"]),
 ];
 
 const NAME_OF_DEVICE: &[Mistake] = &[Mistake::Key(
@@ -267,6 +279,7 @@ fn rows_of_device(what: FaultKind) -> &'static [Mistake] {
         FaultKind::AddressTwice => ADDRESS_TWICE,
         FaultKind::BadPages => PAGES,
         FaultKind::BadName => NAME_OF_DEVICE,
+        FaultKind::BadInitial => PROTECT_INITIAL,
         _ => &[],
     }
 }

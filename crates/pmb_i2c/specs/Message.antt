@@ -10,6 +10,7 @@ use Rattle.pmb_device.specs.declared.signal.HostSignal.TheVariants.{Start, Byte,
 use Rattle.pmb_device.specs.declared.signal.DeviceSignal.{DeviceSignal}
 use Rattle.pmb_device.specs.declared.signal.DeviceSignal.TheVariants as answers
 use Rattle.pmb_devices.specs.Bus.{AnsweredSignal}
+use Rattle.pmb_i2c.specs.Wire.{byte_read}
 use Rattle.pmb_i2c.specs.declared.message.MessageEnd.{MessageEnd}
 use Rattle.pmb_i2c.specs.declared.message.MessageEnd.TheVariants as ends
 use Rattle.pmb_i2c.specs.declared.message.MessageFault.{MessageFault}
@@ -36,15 +37,7 @@ pub data Writes (bytes : List ℕ) (outcome : Result (Unit {0}) MessageFault) (h
 
 -- ---- bytes that are read
 
--- What the host reads: the byte that a device gave, or ffh, since nobody pulls the wire low. Such an
--- Ask is recorded as NACK alone (`recorded` of pmb_devices).
-abbrev pub byte_read : DeviceSignal → ℕ
-byte_read answers.Silent = 0xff
-byte_read answers.Ack = 0xff
-byte_read answers.Nack = 0xff
-byte_read (answers.Byte byte) = byte
-
--- A byte is read, and the host answers this.
+-- A byte is read, ffh where no device gives one, and the host answers this.
 pub record ReadsByte (reply : HostSignal) (byte : ℕ) (heard : List AnsweredSignal) : Type 0 where
   pub answer : DeviceSignal
   pub silence : DeviceSignal

@@ -2,8 +2,9 @@
 use Rattle.std.specs.Prelude.{List, [], ◌∷◌, ◌++◌}
 use Rattle.pmb_bus.specs.declared.event.Event.{Event}
 use Rattle.pmb_devices.specs.declared.bus.Bus.{Bus}
-use Rattle.pmb_devices.specs.Bus.{AnsweredSignal, recorded_events}
+use Rattle.pmb_devices.specs.Bus.{AnsweredSignal}
 use Rattle.pmb_devices.specs.Signal.{BusStanding, BusStandsAt, BusTakes}
+use Rattle.pmb_i2c.specs.Wire.{wire_events}
 
 -- A bus that stood here took these signals in turn, and each had this answer. Each does what `BusTakes`
 -- says of it, wherever the bus stood after those before it.
@@ -14,10 +15,10 @@ TakesInTurn standing (one ∷ more) new =
     × ((next : BusStanding) → BusStandsAt middle next → TakesInTurn next more new)
 
 -- A bus was given such signals, and had these answers: wherever it stood, it took them in turn, and a
--- listener heard what is recorded of them, in order.
+-- listener heard what is on the wire of them, in order.
 pub record Gives (Such : List AnsweredSignal → Type 0) (old new : Bus) (Before After : List Event → Type 0) : Type
     0 where
   pub heard : List AnsweredSignal
   pub such : Such heard
   pub takes : (standing : BusStanding) → BusStandsAt old standing → TakesInTurn standing heard new
-  pub told : (earlier : List Event) → Before earlier → After (earlier ++ recorded_events heard)
+  pub told : (earlier : List Event) → Before earlier → After (earlier ++ wire_events heard)

@@ -4,21 +4,44 @@
 
 ghost use Rattle.std.specs.Prelude.{◌≡◌, ◌↔◌, IsTrue, [], ◌∷◌};
 ghost use Rattle.pmb_device.specs.declared.signal.DeviceSignal.TheVariants as answers;
+ghost use Rattle.pmb_device.specs.declared.signal.HostSignal.TheVariants as signals;
 ghost use Rattle.pmb_i2c.specs.Signals.{Gives};
-ghost use Rattle.pmb_i2c.specs.Message.{BeginsAt, EndsBy, Reads, ReadsByte, Writes, answered, byte_read, stops};
+ghost use Rattle.pmb_i2c.specs.Message.{BeginsAt, EndsBy, Reads, ReadsByte, Writes, answered, stops};
+ghost use Rattle.pmb_i2c.specs.Wire.{byte_read};
 
 use crate::listener::Listener;
 use crate::message::{MessageEnd, MessageFault};
+use pmb_bus::Event;
 use pmb_device::{DeviceSignal, HostSignal};
 use pmb_devices::Bus;
 
-/// Gives the bus a signal, tells what is recorded of it, and returns the answer.
+/// Gives the bus a signal, tells what is on the wire of it, and returns the answer.
 pub(crate) fn give<L: Listener>(bus: &mut Bus<'_>, signal: HostSignal, log: &mut L) -> DeviceSignal
     ensures { Gives (λ heard. heard ≡ answered signal result ∷ []) bus.old bus.new (L.HasHeard log.old) (L.HasHeard log.new) }
 {
     let recorded = bus.signal(signal);
+    let answer = recorded.answer();
+    if is_ask(signal) {
+        let byte = [Event::Byte(byte_of(answer))];
+        log.hear(&byte);
+        return answer;
+    }
     log.hear(recorded.events());
-    recorded.answer()
+    answer
+}
+
+/// Whether the host asks for a byte.
+fn is_ask(signal: HostSignal) -> bool
+    ensures { IsTrue result ↔ signal ≡ signals.Ask }
+{
+    match signal {
+        HostSignal::Ask => true,
+        HostSignal::Start
+        | HostSignal::Byte(_)
+        | HostSignal::Ack
+        | HostSignal::Nack
+        | HostSignal::Stop => false,
+    }
 }
 
 /// Whether a device took a byte.

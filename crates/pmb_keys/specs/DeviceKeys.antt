@@ -20,7 +20,7 @@ abbrev pub device_key_names : List (List ℕ)
 device_key_names =
     codes "address" ∷ codes "pec" ∷ codes "pages" ∷ codes "vout_mode" ∷ codes "standard" ∷ codes "vout_direct"
     ∷ codes "command"
-    ∷ codes "name" ∷ codes "vid" ∷ codes "phases" ∷ []
+    ∷ codes "name" ∷ codes "vid" ∷ codes "phases" ∷ codes "protect" ∷ []
 
 -- 08h to 77h without 0ch (SMBus 3.0 appendix C: the others are reserved, and 0ch is the Alert
 -- Response Address), no earlier device's, and none of those that are ignored
@@ -80,6 +80,7 @@ pub record DeviceKeys : Type 0 where
   pub name : Option (List ℕ)
   pub vid : Option VidParts
   pub phases : Option ℕ
+  pub protect : Bool
 
 -- the keys that may be there, each ruled in its turn, after those that have to be
 abbrev pub other_keys : ℕ → PecMode → Members → Result DeviceKeys FaultKind
@@ -92,6 +93,7 @@ other_keys address pec ms =
     bind (optional name_rule (codes "name") ms) (λ name.
     bind (optional (vid_rule pages) (codes "vid") ms) (λ vid.
     bind (optional phases_rule (codes "phases") ms) (λ phases.
+    bind (defaulted (typed as_bool) false (codes "protect") ms) (λ protect.
     Ok (record {
       address = address;
       pec = pec;
@@ -103,7 +105,8 @@ other_keys address pec ms =
       name = name;
       vid = vid;
       phases = phases;
-    })))))))))
+      protect = protect;
+    }))))))))))
 
 -- each key ruled in its turn, where earlier devices have the addresses `taken`, and those in `ignored`
 -- are none of devices

@@ -17,4 +17,5 @@ keys_parts k = record {
   name = option_map (λ name. name.bytes) k.name;
   vid = option_map vid_parts k.vid;
   phases = k.phases;
+  protect = k.protect;
 }

@@ -2,7 +2,7 @@
 //!
 //! Its rows: `tests_tasks`, `src/profiles.rt`; `tests/rows/profiles.txt`.
 
-ghost use Rattle.std.specs.Prelude.{◌≡◌, ◌≤◌, true, Ok, IfOk, IfSome, codes, length, nat_eq, option_map};
+ghost use Rattle.std.specs.Prelude.{◌≡◌, ◌≤◌, false, true, Ok, IfOk, IfSome, codes, length, nat_eq, option_map};
 ghost use Rattle.pmb_command.specs.Bus.{HasTableForEach, IsDeviceAddress};
 ghost use Rattle.pmb_command.specs.Names.{IsDeviceName};
 ghost use Rattle.pmb_command.specs.Parts.{IsNew};
@@ -47,6 +47,8 @@ pub struct DeviceKeys<'a> {
     pub vid: Option<VidTables>,
     /// How many phases it has, 1 to 255, where it says.
     pub phases: Option<u8>,
+    /// Whether it keeps to WRITE_PROTECT.
+    pub protect: bool,
 }
 
 /// The keys of a value's table, where earlier devices have the addresses `taken`, and no device has one
@@ -96,6 +98,7 @@ fn device_keys<'a>(
         "name",
         "vid",
         "phases",
+        "protect",
     ];
     rules::only(table, &known)?;
     let address = address(table, taken, ignored)?;
@@ -122,6 +125,7 @@ fn other_keys(table: &Table, address: u8, pec: PecMode) -> Result<DeviceKeys<'_>
     let name = read_name(table)?;
     let vid = read_vid(table, pages)?;
     let phases = phases(table)?;
+    let protect = protect(table)?;
     Ok(DeviceKeys {
         address,
         pec,
@@ -133,6 +137,7 @@ fn other_keys(table: &Table, address: u8, pec: PecMode) -> Result<DeviceKeys<'_>
         name,
         vid,
         phases,
+        protect,
     })
 }
 
@@ -262,6 +267,16 @@ fn standard(table: &Table) -> Result<bool, FaultKind>
     match rules::find(table, "standard") {
         Some(value) => rules::flag_of(value),
         None => Ok(true),
+    }
+}
+
+/// Whether the device keeps to WRITE_PROTECT: it doesn't, unless it says so.
+fn protect(table: &Table) -> Result<bool, FaultKind>
+    ensures { result ≡ defaulted (typed as_bool) false (codes "protect") (table_view table.now) }
+{
+    match rules::find(table, "protect") {
+        Some(value) => rules::flag_of(value),
+        None => Ok(false),
     }
 }
 

@@ -248,13 +248,19 @@ abbrev pub phases_line : Option ℕ → List ℕ
 phases_line None = []
 phases_line (Some phases) = field (codes "phases") (decimal phases)
 
+-- that it keeps to WRITE_PROTECT, where it does
+abbrev pub protect_line : Bool → List ℕ
+protect_line false = []
+protect_line true = field (codes "protect") (codes "yes")
+
 -- the last keys of a device
 abbrev pub device_end : DeviceParts → List ℕ
 device_end device =
     field (codes "vout_direct") (vout_direct_word device.vout_direct)
     ++ (vid_lines device.vid
     ++ (phases_line device.phases
-    ++ field (codes "commands") (decimal (length device.commands))))
+    ++ (protect_line device.protect
+    ++ field (codes "commands") (decimal (length device.commands)))))
 
 -- the keys of a device
 abbrev pub device_keys : ℕ → DeviceParts → List ℕ

@@ -3,7 +3,7 @@
 //! Its rows: `tests/rows/profile_text.txt`.
 
 ghost use Rattle.std.specs.Prelude.{◌≡◌, ◌+◌, ◌≤◌, ◌<◌, ◌++◌, codes, decimal, length};
-ghost use Rattle.pmb_profile_text.specs.Table.{address_text, device_end, device_head, field, name_line, phases_line};
+ghost use Rattle.pmb_profile_text.specs.Table.{address_text, device_end, device_head, field, name_line, phases_line, protect_line};
 ghost use Rattle.pmb_profile_text.specs.Words.{digits};
 
 use crate::row::{Row, append, append_byte, append_cell, append_number};
@@ -38,6 +38,7 @@ pub(crate) fn device_end(device: &DeviceProfile) -> Row
     append_field(&mut end, b"vout_direct", vout_direct.as_slice());
     append_vid(&mut end, device);
     append_phases(&mut end, device);
+    append_protect(&mut end, device);
     append_count(&mut end, b"commands", device.len());
     end
 }
@@ -64,6 +65,17 @@ fn append_phases(end: &mut Row, device: &DeviceProfile)
     match device.phases() {
         Some(phases) => append_count(end, b"phases", usize::from(phases)),
         None => {}
+    }
+}
+
+/// Appends the line of a device that keeps to WRITE_PROTECT: at most 45 bytes.
+fn append_protect(end: &mut Row, device: &DeviceProfile)
+    requires { length end.old.items + 45 ≤ 2048 }
+    ensures text { end.new.items ≡ end.old.items ++ protect_line device.now.protect }
+    ensures short { length end.new.items ≤ length end.old.items + 45 }
+{
+    if device.protects() {
+        append_field(end, b"protect", b"yes");
     }
 }
 

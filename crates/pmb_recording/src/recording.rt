@@ -32,7 +32,8 @@ pub struct PacketLines {
     pub last: u64,
 }
 
-/// What is kept of a recording.
+/// What is kept of a recording. (What is short stands behind what is long: with a gap before `bus` the
+/// compiler makes a part of it on the stack first, where one is put on the heap.)
 #[derive(Drop)]
 pub struct Recording {
     /// How many lines came.
@@ -43,11 +44,7 @@ pub struct Recording {
     pub wire: ArrayVec<WireByte, MOST_WIRE>,
     /// The time of its START, as it is told. Empty where none is.
     pub time: ArrayVec<u8, MOST_TEXT>,
-    /// Whether lines that can't begin a packet are skipped.
-    pub is_skipping: bool,
-    /// Whether the bus is known that is followed.
-    pub follows_bus: bool,
-    /// Its name, as the recording writes it.
+    /// The name of the bus that is followed, as the recording writes it.
     pub bus: ArrayVec<u8, MOST_TEXT>,
     /// How many packets were written.
     pub packets: u64,
@@ -57,6 +54,10 @@ pub struct Recording {
     pub other_buses: u64,
     /// How many lines were of the other kind of events.
     pub other_kind: u64,
+    /// Whether lines that can't begin a packet are skipped.
+    pub is_skipping: bool,
+    /// Whether the bus is known that is followed.
+    pub follows_bus: bool,
 }
 
 impl Recording {
@@ -70,13 +71,13 @@ impl Recording {
             packet: None,
             wire: ArrayVec::new(),
             time: ArrayVec::new(),
-            is_skipping: false,
-            follows_bus: false,
             bus: ArrayVec::new(),
             packets: 0,
             troubles: 0,
             other_buses: 0,
             other_kind: 0,
+            is_skipping: false,
+            follows_bus: false,
         };
         if let Some(name) = bus {
             recording.follow(kept_name(name));

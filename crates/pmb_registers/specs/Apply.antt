@@ -1,8 +1,9 @@
 -- What a transaction does to the state of a simulated device.
 --
 -- In PMBus Part II 1.3, PAGE is in section 11.10, CLEAR_FAULTS in section 15.1, how the bits of a
--- status register are cleared in section 10.2, and STATUS_CML in chapter 17. That a device keeps
--- what is written to it, and acts in no other way, is this project's own rule.
+-- status register are cleared in section 10.2, STATUS_CML in chapter 17, and WRITE_PROTECT in section
+-- 11.1. That a device keeps what is written to it, and acts in no other way, is this project's own
+-- rule, and so is what becomes of a write that is disabled.
 use Rattle.std.specs.Prelude.{ℕ, ◌-◌, Bool, true, false, ◌&&◌, ◌||◌, if◌then◌else◌, Option, Some, None, Result, Ok, Err}
 use Rattle.std.specs.Prelude.{List, [], ◌∷◌, is_some, map, nat_eq}
 use Rattle.std.specs.Int.Bits.{bit_and, bit_or}
@@ -16,6 +17,7 @@ use Rattle.pmb_registers.specs.declared.cml_bit.CmlBit.{CmlBit}
 use Rattle.pmb_registers.specs.declared.cml_bit.CmlBit.TheVariants.{BadCommand, BadValue, PecFailed}
 use Rattle.pmb_registers.specs.State.{RegisterData, DeviceState}
 use Rattle.pmb_registers.specs.Answer.{all_pages, answer}
+use Rattle.pmb_registers.specs.Protection.{is_enabled}
 
 -- ---- which registers a write reaches
 
@@ -55,11 +57,11 @@ abbrev pub selected_by : ℕ → List ℕ → ℕ
 selected_by page [] = page
 selected_by page (byte ∷ bytes) = byte
 
--- What a complete write does, by its code and data. PAGE selects a page, and its register holds it.
--- CLEAR_FAULTS makes the bits of all status registers 0. Another write without data does nothing. A
--- status register loses the bits that are written as 1, and any other takes the bytes.
-abbrev pub after_write : DeviceParts → ℕ → List ℕ → DeviceState → DeviceState
-after_write device code bytes state =
+-- What a complete write does that is enabled, by its code and data. PAGE selects a page, and its
+-- register holds it. CLEAR_FAULTS makes the bits of all status registers 0. Another write without data
+-- does nothing. A status register loses the bits that are written as 1, and any other takes the bytes.
+abbrev pub after_enabled : DeviceParts → ℕ → List ℕ → DeviceState → DeviceState
+after_enabled device code bytes state =
     if nat_eq code 0x00 then record {
       page = selected_by state.page bytes;
       registers =
@@ -89,6 +91,13 @@ with_bit device bit state =
           state.registers;
     }
     else state
+
+-- What a complete write does. One that WRITE_PROTECT disables sets a bit of STATUS_CML, and does nothing
+-- else.
+abbrev pub after_write : DeviceParts → ℕ → List ℕ → DeviceState → DeviceState
+after_write device code bytes state =
+    if is_enabled device state code bytes then after_enabled device code bytes state
+    else with_bit device BadValue state
 
 abbrev pub with_noted : DeviceParts → Option CmlBit → DeviceState → DeviceState
 with_noted device None state = state

@@ -1,9 +1,9 @@
 //! The state of a simulated device: its registers and the page that is selected.
 //!
-//! [`Registers`] begin as a device's profile says. A complete write changes them, a read or a call is
-//! answered from them, and a refused one sets a bit of STATUS_CML. In the definitions they are a
-//! map from page and code to bytes, which a transaction changes. This crate knows nothing of events
-//! and signals.
+//! [`Registers`] begin as a device's profile says. A complete write changes them, unless WRITE_PROTECT
+//! disables it on a device that keeps to that; a read or a call is answered from them, and a refused
+//! one sets a bit of STATUS_CML. In the definitions they are a map from page and code to bytes, which
+//! a transaction changes. This crate knows nothing of events and signals.
 //!
 //! ```rust
 //! let profile = Profile::from_toml(rt.alloc(), SAMPLE.as_bytes())?;
@@ -20,6 +20,7 @@ mod cml_bit;
 mod coefficients;
 mod first;
 mod forms;
+mod protection;
 mod register;
 mod register_range;
 mod registers;

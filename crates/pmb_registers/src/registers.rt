@@ -12,7 +12,8 @@ ghost use Rattle.std.specs.Option.{unwrap_or};
 ghost use Rattle.pmb_transaction.specs.Transaction.{part_data, transaction_data};
 ghost use Rattle.pmb_registers.specs.State.{first_state, held, register};
 ghost use Rattle.pmb_registers.specs.Answer.{answer};
-ghost use Rattle.pmb_registers.specs.Apply.{after_part, after_parts, after_write, apply, bit_of_refused, bit_of_sent, changed, is_status, selected_by, with_bit, with_noted};
+ghost use Rattle.pmb_registers.specs.Protection.{is_enabled};
+ghost use Rattle.pmb_registers.specs.Apply.{after_enabled, after_part, after_parts, after_write, apply, bit_of_refused, bit_of_sent, changed, is_status, selected_by, with_bit, with_noted};
 ghost use Rattle.pmb_registers.specs.Reply.{answer_bytes, reply_bytes};
 ghost use Rattle.pmb_registers.specs.machine.Registers.{HasRoom, change_of, register_data};
 ghost use Rattle.pmb_registers.specs.machine.Places.{IsPlaceOf};
@@ -22,6 +23,7 @@ use crate::cml_bit::CmlBit;
 use crate::coefficients::answer_coefficients;
 use crate::first::{add_command, count_registers, no_places};
 use crate::forms::{is_paged, is_read, is_sent_alone, is_status, status_codes};
+use crate::protection::{WRITE_PROTECT, enables_by, takes};
 use crate::register::{ALL_PAGES, Register};
 use crate::register_range::{RegisterRange, bytes_in, change_in, clear_in_each};
 use crate::reply::Reply;
@@ -174,10 +176,31 @@ impl<'p> Registers<'p> {
         );
     }
 
-    /// A complete write of a code and its data, up to 255 bytes.
+    /// Whether a write is enabled: WRITE_PROTECT leaves it, where the device keeps to that.
+    fn is_enabled(&self, code: u8, bytes: &[u8]) -> bool
+        ensures { result ≡ is_enabled self.now.device self.now.state code bytes.now }
+    {
+        !self.device.protects()
+            || (enables_by(self.held_or_none(WRITE_PROTECT), code) && takes(code, bytes))
+    }
+
+    /// A complete write of a code and its data, up to 255 bytes. One that WRITE_PROTECT disables, on
+    /// a device that keeps to it, sets a bit of STATUS_CML, and does nothing else.
     pub fn write(&mut self, code: u8, bytes: &[u8])
         requires { length bytes.now ≤ 255 }
         ensures { self.new ≡ record self.old { state = after_write self.old.device code bytes.now self.old.state } }
+    {
+        if self.is_enabled(code, bytes) {
+            self.write_enabled(code, bytes);
+        } else {
+            self.note(CmlBit::BadValue);
+        }
+    }
+
+    /// What a complete write does that is enabled.
+    fn write_enabled(&mut self, code: u8, bytes: &[u8])
+        requires { length bytes.now ≤ 255 }
+        ensures { self.new ≡ record self.old { state = after_enabled self.old.device code bytes.now self.old.state } }
     {
         if code == PAGE {
             self.select(bytes);

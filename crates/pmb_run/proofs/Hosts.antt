@@ -48,6 +48,26 @@ after_one_more ts t (member ∷ members) =
     λ i. record { device = member.device; state = applied_behind member.device ts t member.state i }
     ∷ after_one_more ts t members i
 
+-- some transactions after others
+applied_after : (device : DeviceParts) (ts us : List TransactionData) (state : DeviceState)
+    → apply_all device us (apply_all device ts state) ≡ apply_all device (ts ++ us) state
+applied_after device [] us state = refl
+applied_after device (first ∷ ts) us state = applied_after device ts us (apply device first state)
+
+pub after_both : (ts us : List TransactionData) (members : List InState)
+    → all_after us (all_after ts members) ≡ all_after (ts ++ us) members
+after_both ts us [] = refl
+after_both ts us (member ∷ members) =
+    λ i. record { device = member.device; state = applied_after member.device ts us member.state i }
+    ∷ after_both ts us members i
+
+-- the devices stay
+pub devices_stay : (t : TransactionData) (members : List InState)
+    → map (λ (member : InState). member.device) (all_applied t members) ≡ map (λ (member : InState). member.device) members
+devices_stay t [] = refl
+devices_stay t (member ∷ members) =
+    ap (λ (devices : List DeviceParts). member.device ∷ devices) (devices_stay t members)
+
 -- the devices stay those of the profile
 pub devices_after : (ts : List TransactionData) (profile : List DeviceParts)
     → map (λ (member : InState). member.device) (all_after ts (first_members profile)) ≡ profile
@@ -57,25 +77,25 @@ devices_after ts (device ∷ profile) = ap (λ (devices : List DeviceParts). dev
 -- ---- how a request begins
 
 -- a new host and the bench's bus
-abbrev pub begins_on : (ts : List TransactionData) (bench : Bench) (request : RequestData) (host : Host)
-    (stands : BenchStands bench ts) → IsNewHost (bench_profile bench) request host
+abbrev pub begins_on : (members : List InState) (ts : List TransactionData) (bench : Bench) (request : RequestData)
+    (host : Host) (stands : BenchStands bench members ts) → IsNewHost (bench_profile bench) request host
     → Begins (bench_profile bench) request host bench.bus
-begins_on ts bench request host stands new = record {
+begins_on members ts bench request host stands new = record {
   new = new;
   past = stands.past;
-  members = all_after ts (first_members (bench_profile bench));
-  devices_are = devices_after ts (bench_profile bench);
+  members = members;
+  devices_are = stands.devices_are;
   stands = stands.bus;
 }
 
 -- where the host begins
-abbrev pub beginning_on : (ts : List TransactionData) (bench : Bench) (request : RequestData) (host : Host)
-    (stands : BenchStands bench ts) → IsNewHost (bench_profile bench) request host
+abbrev pub beginning_on : (members : List InState) (ts : List TransactionData) (bench : Bench) (request : RequestData)
+    (host : Host) (stands : BenchStands bench members ts) → IsNewHost (bench_profile bench) request host
     → ExchangeStanding
-beginning_on ts bench request host stands new = record {
+beginning_on members ts bench request host stands new = record {
   job = record { profile = bench_profile bench; task = task_of request new.word; number = new.number };
   past = stands.past;
-  members = all_after ts (first_members (bench_profile bench));
+  members = members;
   events = [];
   sent = 0;
 }
@@ -90,14 +110,16 @@ heard_nothing ts bench n not_empty reader context t [] packet =
 heard_nothing ts bench n not_empty reader context t (event ∷ rest) packet = (reader, context)
 
 -- The host stands at its beginning.
-pub runs_first : (ts : List TransactionData) (bench : Bench) (request : RequestData) (host : Host) (exchange : Exchange)
-    (stands : BenchStands bench ts) (new : IsNewHost (bench_profile bench) request host)
+pub runs_first : (members : List InState) (ts : List TransactionData) (bench : Bench) (request : RequestData)
+    (host : Host) (exchange : Exchange)
+    (stands : BenchStands bench members ts) (new : IsNewHost (bench_profile bench) request host)
     → ((profile : List DeviceParts) (t : TransactionData) (events : List Event) → Packet profile t events → events ≢ [])
-    → ExchangeStandsAt exchange bench.bus (beginning_on ts bench request host stands new)
-    → RunsHost ts bench exchange (beginning_on ts bench request host stands new)
-runs_first ts bench request host exchange stands new not_empty there = record {
+    → ExchangeStandsAt exchange bench.bus (beginning_on members ts bench request host stands new)
+    → RunsHost members ts bench exchange (beginning_on members ts bench request host stands new)
+runs_first members ts bench request host exchange stands new not_empty there = record {
   stands = there;
   profile_is = refl;
+  devices_are = stands.devices_are;
   members_are = refl;
   n = stands.n;
   heard = heard_nothing ts bench stands.n not_empty stands.reader stands.context;
@@ -106,8 +128,8 @@ runs_first ts bench request host exchange stands new not_empty there = record {
 -- ---- how it goes on
 
 -- So many signals were sent, and their events put out.
-pub record HostRuns (ts : List TransactionData) (first : ExchangeStanding) (sent : ℕ) (bench : Bench)
-    (exchange : Exchange) (held_old : Option (List ℕ)) (waiting_old : List ℕ) (held_new : Option (List ℕ))
+pub record HostRuns (members : List InState) (ts : List TransactionData) (first : ExchangeStanding) (sent : ℕ)
+    (bench : Bench) (exchange : Exchange) (held_old : Option (List ℕ)) (waiting_old : List ℕ) (held_new : Option (List ℕ))
     (waiting_new : List ℕ) : Type 0 where
   -- 4,161 is the greatest number of signals (`signals_are_few` of pmb_host)
   pub few : sent ≤ 4161
@@ -115,15 +137,15 @@ pub record HostRuns (ts : List TransactionData) (first : ExchangeStanding) (sent
   pub events : List Event
   -- which were put out as text
   pub writes : PutsText held_old waiting_old held_new waiting_new (canonical_text events)
-  pub runs : RunsHost ts bench exchange (record first { events = events; sent = sent })
+  pub runs : RunsHost members ts bench exchange (record first { events = events; sent = sent })
 
 -- One signal more was sent.
-pub sent_more : TextsAddUp → (ts : List TransactionData) (first : ExchangeStanding) (sent : ℕ) (bench after : Bench)
-    (exchange next : Exchange)
-    (h0 h1 h2 : Option (List ℕ)) (w0 w1 w2 : List ℕ) (runs : HostRuns ts first sent bench exchange h0 w0 h1 w1)
-    → GoesOn ts (record first { events = runs.events; sent = sent }) after next h1 w1 h2 w2
-    → HostRuns ts first (sent + 1) after next h0 w0 h2 w2
-sent_more add_up ts first sent bench after exchange next h0 h1 h2 w0 w1 w2 runs more = record {
+pub sent_more : TextsAddUp → (members : List InState) (ts : List TransactionData) (first : ExchangeStanding) (sent : ℕ)
+    (bench after : Bench) (exchange next : Exchange)
+    (h0 h1 h2 : Option (List ℕ)) (w0 w1 w2 : List ℕ) (runs : HostRuns members ts first sent bench exchange h0 w0 h1 w1)
+    → GoesOn members ts (record first { events = runs.events; sent = sent }) after next h1 w1 h2 w2
+    → HostRuns members ts first (sent + 1) after next h0 w0 h2 w2
+sent_more add_up members ts first sent bench after exchange next h0 h1 h2 w0 w1 w2 runs more = record {
   few = omega (arith, more.few);
   events = runs.events ++ more.events;
   writes = subst (λ (text : List ℕ). PutsText h0 w0 h2 w2 text) (sym (flat_map-append text_of runs.events more.events))
@@ -135,20 +157,20 @@ sent_more add_up ts first sent bench after exchange next h0 h1 h2 w0 w1 w2 runs 
 
 -- After the end the bench stands between requests, with the transaction among those that were
 -- recorded.
-pub stands_behind : (ts : List TransactionData) (bench : Bench) (exchange : Exchange) (standing : ExchangeStanding)
-    (end : HostStep)
-    → RunsHost ts bench exchange standing → (over : IsOver standing end bench.bus)
-    → BenchStands bench (ts ++ over.done ∷ [])
-stands_behind ts bench exchange standing end runs over =
+pub stands_behind : (members : List InState) (ts : List TransactionData) (bench : Bench) (exchange : Exchange)
+    (standing : ExchangeStanding) (end : HostStep)
+    → RunsHost members ts bench exchange standing → (over : IsOver standing end bench.bus)
+    → BenchStands bench (all_after (over.done ∷ []) members) (ts ++ over.done ∷ [])
+stands_behind members ts bench exchange standing end runs over =
     let packet = subst (λ (events : List Event). Packet (bench_profile bench) over.done events)
     (sym (append-nil standing.events))
     (subst (λ (profile : List DeviceParts). Packet profile over.done standing.events) runs.profile_is over.packet) in
     let heard : HaveRead bench ts runs.n standing.events over.done [] = runs.heard over.done [] packet in
-    let members = ap (all_applied over.done) runs.members_are
-    ∙ after_one_more ts over.done (first_members (bench_profile bench)) in record {
+    let applied = ap (all_applied over.done) runs.members_are in record {
+      devices_are = devices_stay over.done members ∙ runs.devices_are;
       past = standing.past ++ over.stretch ∷ [];
       bus = subst (λ (ms : List InState). BusStandsAt bench.bus
-          (record { past = standing.past ++ over.stretch ∷ []; members = ms; history = [] })) members over.stands;
+          (record { past = standing.past ++ over.stretch ∷ []; members = ms; history = [] })) applied over.stands;
       n = _;
       reader = heard.0;
       context = heard.1;

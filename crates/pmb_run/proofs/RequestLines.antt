@@ -15,14 +15,17 @@ use Rattle.pmb_io.specs.Tally.{IsTallyOf, with_packet, with_refusal}
 use Rattle.pmb_io.specs.declared.tally.Tally.{Tally}
 use Rattle.pmb_command.specs.Parts.{DeviceParts}
 use Rattle.pmb_transaction.specs.Transaction.{TransactionData, Write, Read, Call, Refused, Alert, NoAlert}
+use Rattle.pmb_registers.specs.State.{InState}
+use Rattle.pmb_devices.specs.Runs.{all_after, first_members}
 use Rattle.pmb_build.specs.Answer.{numbered_text}
-use Rattle.pmb_run.specs.Answer.{RunAnswer, RunsLine, RunsText, Recorded, Refusal, Nothing, answer_text, is_done}
+use Rattle.pmb_run.specs.Answer.{RunAnswer, RunsLine, RunsText, RunsTextWith, Recorded, Refusal, Nothing, answer_text, is_done}
 use Rattle.pmb_run.specs.Answer.{is_failed}
 use Rattle.pmb_run.specs.Lines.{RunsEach, all_recorded, recorded_by}
 use Rattle.pmb_run.specs.declared.bench.Bench.{Bench}
 use Rattle.pmb_run.specs.declared.runner.Runner.{Runner}
-use Rattle.pmb_run.specs.machine.Bench.{BenchStands, bench_profile}
+use Rattle.pmb_run.specs.machine.Bench.{BenchStands, HasRun, bench_profile}
 use Rattle.pmb_run.specs.machine.Running.{RunnerStands, RunnerTakes, counted_in}
+use Rattle.pmb_run.proofs.Hosts.{after_both}
 
 -- what was recorded for answers and then for others
 recorded-append : (answers more : List RunAnswer) → all_recorded (answers ++ more) ≡ all_recorded answers
@@ -128,7 +131,7 @@ pub answers_more : (start before after : Runner) (given : List TextLine) (text :
     → after.tally ≡ counted_in answer before.tally
     → (stands : RunnerStands start before given text)
     → RunsLine (bench_profile before.bench) (recorded_so_far start before given text stands) line answer
-    → BenchStands after.bench (recorded_so_far start before given text stands ++ recorded_by answer)
+    → HasRun after.bench (recorded_so_far start before given text stands ++ recorded_by answer)
     → RunnerStands start after (given ++ line ∷ []) (text ++ answer_text number answer)
 answers_more start before after given text line answer number number_is same lines_are tally_is stands answered bench =
     -- the answers so far
@@ -153,7 +156,7 @@ answers_more start before after given text line answer number number_is same lin
             (counts_more before.tally was.answers answer stands.answered.counts);
       };
       number = lines_are ∙ (numbered ∙ ap (λ (n : ℕ). capped n) (sym (length-append was.answers (answer ∷ []))));
-      stands = subst (λ (ts : List TransactionData). BenchStands after.bench ts)
+      stands = subst (λ (ts : List TransactionData). HasRun after.bench ts)
           (sym (recorded_more was.answers answer)) bench;
     }
 
@@ -166,20 +169,26 @@ pub puts_more : (start before counting after : Runner) (given : List TextLine) (
     → ((answer : RunAnswer) → RunsText (bench_profile before.bench) (recorded_so_far start before given text stands)
     said answer
     → RunsLine (bench_profile before.bench) (recorded_so_far start before given text stands) line answer)
-    → RunnerTakes (recorded_so_far start before given text stands) counting after said held_old waiting_old held_new
-    waiting_new
+    → RunnerTakes (all_after (recorded_so_far start before given text stands) (first_members (bench_profile before.bench)))
+    (recorded_so_far start before given text stands) counting after said held_old waiting_old held_new waiting_new
     → PutsOut (λ more. RunnerStands start after (given ++ line ∷ []) (text ++ more)) held_old waiting_old held_new
     waiting_new
 puts_more start before counting after given text line said held_old waiting_old held_new waiting_new same lines_are
     tally_is stands says takes =
-    let ts = recorded_so_far start before given text stands in record {
+    let ts = recorded_so_far start before given text stands in
+    let firsts = first_members (bench_profile before.bench) in
+    let profile_is = takes.same ∙ ap (λ (b : Bench). b.profile) same in
+    let us = ts ++ recorded_by takes.answer in
+    let members = after_both ts (recorded_by takes.answer) firsts
+    ∙ ap (λ (p : Bor (List DeviceParts)). all_after us (first_members p.now)) (sym profile_is) in record {
       text = answer_text counting.lines takes.answer;
       writes = takes.writes;
       holds = answers_more start before after given text line takes.answer counting.lines lines_are
-          (takes.same ∙ ap (λ (b : Bench). b.profile) same) takes.lines
+          profile_is takes.lines
           (takes.tally ∙ ap (counted_in takes.answer) tally_is) stands
-          (says takes.answer (subst (λ (b : Bench). RunsText (bench_profile b) ts said takes.answer) same
-          takes.answers)) takes.stands;
+          (says takes.answer (subst (λ (b : Bench). RunsTextWith (bench_profile b) ts (all_after ts firsts) said takes.answer)
+          same takes.answers))
+          (subst (λ (ms : List InState). BenchStands after.bench ms us) members takes.stands);
     }
 
 -- what was put out for a line with a fault
@@ -199,6 +208,6 @@ fault_more start before after given text line why number held_old waiting_old he
       writes = puts;
       holds = answers_more start before after given text line (Refusal why) number number_is
           (ap (λ (b : Bench). b.profile) same) lines_are tally_is stands refused
-          (subst (λ (b : Bench). BenchStands b (ts ++ [])) (sym same)
-          (subst (λ (us : List TransactionData). BenchStands before.bench us) (sym (append-nil ts)) stands.stands));
+          (subst (λ (b : Bench). HasRun b (ts ++ [])) (sym same)
+          (subst (λ (us : List TransactionData). HasRun before.bench us) (sym (append-nil ts)) stands.stands));
     }

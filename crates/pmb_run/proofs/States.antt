@@ -19,8 +19,9 @@ use Rattle.pmb_transaction.specs.Body.{forms, shape_of}
 use Rattle.pmb_registers.specs.declared.cml_bit.CmlBit.{CmlBit}
 use Rattle.pmb_registers.specs.declared.cml_bit.CmlBit.TheVariants.{BadCommand, BadValue, PecFailed}
 use Rattle.pmb_registers.specs.Answer.{all_pages}
-use Rattle.pmb_registers.specs.Apply.{after_write, bit_value, changed, cleared_bits, is_status, reaches, selected_by}
-use Rattle.pmb_registers.specs.Apply.{with_bit, with_noted}
+use Rattle.pmb_registers.specs.Apply.{after_enabled, after_write, bit_value, changed, cleared_bits, is_status, reaches}
+use Rattle.pmb_registers.specs.Apply.{selected_by, with_bit, with_noted}
+use Rattle.pmb_registers.specs.Protection.{is_enabled}
 use Rattle.pmb_registers.specs.State.{DeviceState, RegisterData}
 use Rattle.pmb_device.proofs.Requests.{page_form}
 use Rattle.pmb_devices.specs.Replies.{IsState}
@@ -174,12 +175,12 @@ module _ (device : DeviceParts) where
           ap (λ (f : Form). same_form f Zero) (page_form device form accepted
           (subst (λ (n : ℕ). (forms device n).write ≡ Some form) zero written))
 
-      -- What a complete write makes of the state, where a value of PAGE is one of the device's
-      -- pages, or ffh.
-      pub write_good : (code ≡ 0x00 → (selected_by before.page content < device.pages)
+      -- What a complete write makes of the state that is enabled, where a value of PAGE is one of the
+      -- device's pages, or ffh,
+      enabled_good : (code ≡ 0x00 → (selected_by before.page content < device.pages)
           ⊎ (selected_by before.page content ≡ all_pages))
-          → IsGood device (after_write device code content before)
-      write_good valid =
+          → IsGood device (after_enabled device code content before)
+      enabled_good valid =
           -- PAGE, whose code is 00h
           if_good (nat_eq code 0x00) _ _
           (
@@ -210,3 +211,13 @@ module _ (device : DeviceParts) where
           )
           )
           )
+
+      -- and what one makes of it that may be disabled.
+      pub write_good : (code ≡ 0x00 → (selected_by before.page content < device.pages)
+          ⊎ (selected_by before.page content ≡ all_pages))
+          → IsGood device (after_write device code content before)
+      write_good valid =
+          if_good (is_enabled device before code content) (after_enabled device code content before)
+          (with_bit device BadValue before)
+          (λ enabled. enabled_good valid)
+          (λ disabled. bit_good BadValue)

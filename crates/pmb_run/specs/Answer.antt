@@ -18,6 +18,7 @@ use Rattle.pmb_transaction.specs.Transaction.{TransactionData, Write, Read, Call
 use Rattle.pmb_value.specs.declared.vout.ModeFault.{ModeFault}
 use Rattle.pmb_value.specs.declared.vout.ModeFault.TheVariants.{Relative, Vid, Ieee, NoCoefficients}
 use Rattle.pmb_devices.specs.Runs.{all_after, first_members}
+use Rattle.pmb_registers.specs.State.{InState}
 use Rattle.pmb_request.specs.Request.{RequestData}
 use Rattle.pmb_request.specs.RequestFault.{IsRequestFault, SpellsRequest, fault_text}
 use Rattle.pmb_request.specs.declared.request_fault.RequestFault.{RequestFault}
@@ -129,21 +130,22 @@ is_failed Nothing = false
 abbrev pub most_request_line : ℕ
 most_request_line = 32768
 
-module _ (profile : List DeviceParts) (before : List TransactionData) where
-  -- The line spells a request that a host can be made for, and this is what it comes to on the devices as
-  -- the transactions before left them, with what the host tells of it.
-  pub record Runs (line : List ℕ) (t : TransactionData) (events : List Event) (result : List ℕ) : Type 0 where
-    pub request : RequestData
-    pub spells : SpellsRequest (mode profile before) line request
-    pub word : ℕ
-    pub number : Option NumberFormat
-    pub allowed : IsAllowed profile request word number
-    pub exchanges : Exchanges (all_after before (first_members profile)) (task_of request word) t
-    pub packet : Packet profile t events
-    pub end : HostStep
-    pub ends : EndsWith number t end
-    pub told : result ≡ end_text end
+-- The line spells a request that a host can be made for, by what these transactions told, and this is what it
+-- comes to on devices in these states, with what the host tells of it.
+pub record RunsWith (profile : List DeviceParts) (members : List InState) (before : List TransactionData)
+    (line : List ℕ) (t : TransactionData) (events : List Event) (result : List ℕ) : Type 0 where
+  pub request : RequestData
+  pub spells : SpellsRequest (mode profile before) line request
+  pub word : ℕ
+  pub number : Option NumberFormat
+  pub allowed : IsAllowed profile request word number
+  pub exchanges : Exchanges members (task_of request word) t
+  pub packet : Packet profile t events
+  pub end : HostStep
+  pub ends : EndsWith number t end
+  pub told : result ≡ end_text end
 
+module _ (profile : List DeviceParts) (before : List TransactionData) where
   -- The first fault of a line with words: of the line, or of the request that it spells.
   pub data IsRefused (line : List ℕ) (why : List ℕ) : Type 0 where
     no_request : (because : RequestFault) → IsRequestFault line because → because ≢ Line line_fault.Blank
@@ -152,15 +154,25 @@ module _ (profile : List DeviceParts) (before : List TransactionData) where
         → IsFault profile request because
         → why ≡ host_fault_text because → IsRefused line why
 
-  -- what is answered to what a line says
+  -- what is answered to what a line says, on devices in these states
+  abbrev pub RunsTextWith : List InState → List ℕ → RunAnswer → Type 0
+  RunsTextWith members line (Recorded t events result) = RunsWith profile members before line t events result
+  RunsTextWith members line (Refusal why) = IsRefused line why
+  RunsTextWith members line Nothing = line_words line ≡ []
+
+  -- and on the devices as the transactions before left them
+  abbrev pub Runs : List ℕ → TransactionData → List Event → List ℕ → Type 0
+  Runs line t events result = RunsWith profile (all_after before (first_members profile)) before line t events result
+
   abbrev pub RunsText : List ℕ → RunAnswer → Type 0
-  RunsText line (Recorded t events result) = Runs line t events result
-  RunsText line (Refusal why) = IsRefused line why
-  RunsText line Nothing = line_words line ≡ []
+  RunsText line answer = RunsTextWith (all_after before (first_members profile)) line answer
 
   -- What is answered to a line. One of more bytes is too long after the last that it may have, whatever
   -- it says.
+  abbrev pub RunsLineWith : List InState → lines.TextLine → RunAnswer → Type 0
+  RunsLineWith members (lines.Ended line) answer = RunsTextWith members line answer
+  RunsLineWith members (lines.Last line) answer = RunsTextWith members line answer
+  RunsLineWith members lines.TooLong answer = answer ≡ Refusal (fault_text (Line (line_fault.TooLong most_request_line)))
+
   abbrev pub RunsLine : lines.TextLine → RunAnswer → Type 0
-  RunsLine (lines.Ended line) answer = RunsText line answer
-  RunsLine (lines.Last line) answer = RunsText line answer
-  RunsLine lines.TooLong answer = answer ≡ Refusal (fault_text (Line (line_fault.TooLong most_request_line)))
+  RunsLine line answer = RunsLineWith (all_after before (first_members profile)) line answer

@@ -1,4 +1,5 @@
 pub mod Answer
+pub mod Heard
 pub mod Kept
 pub mod Lines
 pub mod machine

@@ -2,16 +2,20 @@
 //!
 //! Its rows: `tests/rows/requests.txt`, `tests/rows/sessions.txt`.
 
-ghost use Rattle.std.specs.Prelude.{◌≡◌, ℕ, List, [], ◌++◌, IfOk, OnOk};
+ghost use Rattle.std.specs.Prelude.{◌≡◌, ◌↔◌, ℕ, true, List, [], ◌∷◌, ◌++◌, IfOk, OnOk};
 ghost use Rattle.pmb_bus.specs.Event.{canonical_text};
 ghost use Rattle.pmb_bus.specs.declared.event.Event.{Event as BusEvent};
 ghost use Rattle.pmb_transaction.specs.Transaction.{TransactionData};
+ghost use Rattle.pmb_registers.specs.State.{InState};
 ghost use Rattle.pmb_devices.specs.Signal.{BusStandsAt};
 ghost use Rattle.pmb_devices.specs.Runs.{first_members};
 ghost use Rattle.pmb_io.specs.Calls.{WriterTells};
 ghost use Rattle.pmb_io.specs.Outgoing.{PutsText};
 ghost use Rattle.pmb_exchange.specs.Steps.{ExchangeStanding};
-ghost use Rattle.pmb_run.specs.machine.Bench.{BenchStands, HaveHeard, RunsHost, RunsOn};
+ghost use Rattle.pmb_reader.specs.Reader.{IsBetween, ReaderStandsAt, Standing};
+ghost use Rattle.pmb_transaction.specs.Reading.{Outcome};
+ghost use Rattle.pmb_run.specs.Heard.{ReadsAs};
+ghost use Rattle.pmb_run.specs.machine.Bench.{HasRun, HaveHeard, RunsHost, RunsOn, bench_profile};
 
 use pmb_build::put_event;
 use pmb_bus::Event;
@@ -21,7 +25,10 @@ use pmb_host::HostStep;
 use pmb_io::laws::texts_add_up;
 use pmb_io::{RunFault, Sink, Waiting};
 use pmb_note::Context;
-use pmb_reader::laws::some_packet_is_read;
+use pmb_reader::laws::{
+    reading_accepts, reading_begins, reading_goes_on, reading_refuses, reading_resumes,
+    some_packet_is_read,
+};
 use pmb_reader::{Reader, Took};
 use pmb_table::Profile;
 use pmb_table::laws::accepted_bus;
@@ -29,9 +36,10 @@ use pmb_transaction::laws::{no_packet_begins_another, one_transaction};
 
 /// The simulated devices of a profile, and what the packets on their bus have told.
 #[derive(Drop)]
-pub(crate) struct Bench<'p> {
+pub struct Bench<'p> {
     profile: &'p Profile,
-    bus: Bus<'p>,
+    /// The devices.
+    pub bus: Bus<'p>,
     /// What was recorded is read,
     reader: Reader<'p>,
     /// and what it says of PAGE and VOUT_MODE kept.
@@ -40,11 +48,13 @@ pub(crate) struct Bench<'p> {
 
 impl<'p> Bench<'p> {
     /// With a bus on which nothing happened.
-    pub(crate) fn new(profile: &'p Profile, bus: Bus<'p>) -> Bench<'p>
+    pub fn new(profile: &'p Profile, bus: Bus<'p>) -> Bench<'p>
         requires { BusStandsAt bus (record { past = []; members = first_members profile.now; history = [] }) }
         ensures profile { result.profile.now ≡ profile.entry.now }
-        ensures begins { BenchStands result [] }
+        ensures begins { HasRun result [] }
+        ensures read { ReadsAs result [] [] }
     {
+        reading_begins();
         Bench {
             profile,
             bus,
@@ -57,6 +67,48 @@ impl<'p> Bench<'p> {
         ensures { result ≡ self.now.profile }
     {
         self.profile
+    }
+
+    /// Whether the packets so far have ended, and nothing is passed over.
+    pub fn is_between(&self) -> bool
+        ensures { (standing : Standing) → ReaderStandsAt (bench_profile self.now) self.now.reader standing
+            → (result ≡ true) ↔ IsBetween standing }
+    {
+        self.reader.is_between()
+    }
+
+    /// Reads events that no request caused, and keeps what their packets tell. After one that no packet can
+    /// have there, those up to the next STOP are passed over.
+    pub fn overhear(&mut self, events: &[Event])
+        ensures profile { self.new.profile ≡ self.old.profile }
+        ensures bus { self.new.bus ≡ self.old.bus }
+        ensures reads { (before : List BusEvent) (outcomes : List Outcome) → ReadsAs self.old before outcomes
+            → (more : List Outcome) × ReadsAs self.new (before ++ events.now) (outcomes ++ more) }
+    {
+        for event in events {
+            self.overhear_one(*event);
+        }
+    }
+
+    /// Reads one event.
+    fn overhear_one(&mut self, event: Event)
+        ensures profile { self.new.profile ≡ self.old.profile }
+        ensures bus { self.new.bus ≡ self.old.bus }
+        ensures reads { (before : List BusEvent) (outcomes : List Outcome) → ReadsAs self.old before outcomes
+            → (more : List Outcome) × ReadsAs self.new (before ++ event ∷ []) (outcomes ++ more) }
+    {
+        reading_goes_on();
+        reading_accepts();
+        reading_refuses();
+        reading_resumes();
+        match self.reader.take(event) {
+            Took::Continues => {}
+            Took::Packet => self.context.observe(self.reader.packet()),
+            Took::Refused(_) => {
+                self.reader.resync();
+                let _ = self.reader.take(event);
+            }
+        }
     }
 
     /// What the packets so far have told of PAGE and VOUT_MODE.
@@ -75,8 +127,9 @@ impl<'p> Bench<'p> {
         writer: &mut W,
     ) -> Result<Option<HostStep>, RunFault>
         ensures profile { self.new.profile ≡ self.old.profile }
-        ensures runs { (ts : List TransactionData) (standing : ExchangeStanding) → RunsHost ts self.old exchange.old standing
-            → IfOk result (λ end. RunsOn ts standing end self.new exchange.new (W.told writer.old).held waiting.old.items (W.told writer.new).held waiting.new.items) }
+        ensures runs { (members : List InState) (ts : List TransactionData) (standing : ExchangeStanding)
+            → RunsHost members ts self.old exchange.old standing
+            → IfOk result (λ end. RunsOn members ts standing end self.new exchange.new (W.told writer.old).held waiting.old.items (W.told writer.new).held waiting.new.items) }
         ensures failed { WriterTells (W.told writer.old) (W.told writer.new) result }
     {
         texts_add_up();

@@ -1,7 +1,8 @@
 //! Requests in; packets on a bus of simulated devices, and their results, out.
 //!
 //! [`run`] makes the devices of a profile, gives them the packet of each request that a line of the input
-//! spells, and writes what is recorded of it, and how it ended.
+//! spells, and writes what is recorded of it, and how it ended. A [`Runner`] does it line by line, on devices
+//! that stay.
 //!
 //! ```rust
 //! let profile = Profile::from_toml(rt.alloc(), SAMPLE.as_bytes())?;
@@ -22,4 +23,6 @@ mod lines;
 mod result;
 mod runner;
 
+pub use bench::Bench;
 pub use lines::{run, run_whole};
+pub use runner::Runner;

@@ -7,6 +7,7 @@ ghost use Rattle.pmb_io.specs.Calls.{WriterTells};
 ghost use Rattle.pmb_io.specs.Outgoing.{PutsText};
 ghost use Rattle.pmb_io.specs.Tally.{with_refusal};
 ghost use Rattle.pmb_build.specs.Answer.{numbered_text};
+ghost use Rattle.pmb_registers.specs.State.{InState};
 ghost use Rattle.pmb_transaction.specs.Transaction.{TransactionData};
 ghost use Rattle.pmb_host.specs.Host.{IsNewHost};
 ghost use Rattle.pmb_request.specs.Request.{RequestData, request_data};
@@ -14,8 +15,8 @@ ghost use Rattle.pmb_request.specs.RequestFault.{SpellsRequest};
 ghost use Rattle.pmb_note.specs.Context.{mode};
 ghost use Rattle.pmb_run.specs.Answer.{most_request_line};
 ghost use Rattle.pmb_run.specs.Lines.{running};
-ghost use Rattle.pmb_run.specs.machine.Bench.{BenchStands, bench_profile};
-ghost use Rattle.pmb_run.specs.machine.Running.{RunnerStands, RunnerTakes, end_counted};
+ghost use Rattle.pmb_run.specs.machine.Bench.{BenchStands, HasRun, bench_profile};
+ghost use Rattle.pmb_run.specs.machine.Running.{NextTaken, RunnerStands, RunnerTakes, end_counted};
 
 use crate::bench::Bench;
 use crate::fault::fault_text;
@@ -36,17 +37,19 @@ const MOST_STEPS: usize = 4162;
 
 /// From lines to packets on a bus, and results.
 #[derive(Drop)]
-pub(crate) struct Runner<'p> {
-    bench: Bench<'p>,
+pub struct Runner<'p> {
+    /// The devices, and what was told on their bus.
+    pub bench: Bench<'p>,
     /// How many lines were taken; stays at the greatest `u64`.
-    lines: u64,
-    tally: Tally,
+    pub lines: u64,
+    /// The requests that were done, and the others.
+    pub tally: Tally,
 }
 
 impl<'p> Runner<'p> {
     /// No line was taken yet.
-    pub(crate) fn new(bench: Bench<'p>) -> Runner<'p>
-        requires { BenchStands bench [] }
+    pub fn new(bench: Bench<'p>) -> Runner<'p>
+        requires { HasRun bench [] }
         ensures profile { result.bench.profile ≡ bench.entry.profile }
         ensures begins { RunnerStands result result [] [] }
     {
@@ -57,6 +60,30 @@ impl<'p> Runner<'p> {
         }
     }
 
+    /// Takes the next line, of which nothing is known but that it has no LF: the request that it spells, on the
+    /// devices as they are, by the PAGE and VOUT_MODE that were told.
+    ///
+    /// # Errors
+    ///
+    /// The writer failed.
+    pub fn take_next<W: Sink>(
+        &mut self,
+        line: &[u8],
+        waiting: &mut Waiting,
+        writer: &mut W,
+    ) -> Result<(), RunFault>
+        ensures takes { (members : List InState) (ts : List TransactionData) → BenchStands self.old.bench members ts
+            → OnOk result (NextTaken members ts self.old self.new line.now (W.told writer.old).held waiting.old.items (W.told writer.new).held waiting.new.items) }
+        ensures failed { WriterTells (W.told writer.old) (W.told writer.new) result }
+    {
+        self.lines = self.lines.saturating_add(1);
+        if line.len() > MOST_BYTES {
+            let fault = LineFault::TooLong(MOST_BYTES).text();
+            return self.take_fault(fault.as_slice(), waiting, writer);
+        }
+        self.take_text(line, waiting, writer)
+    }
+
     /// Takes the request that a line spells.
     fn take_text<W: Sink>(
         &mut self,
@@ -64,8 +91,8 @@ impl<'p> Runner<'p> {
         waiting: &mut Waiting,
         writer: &mut W,
     ) -> Result<(), RunFault>
-        ensures takes { (ts : List TransactionData) → BenchStands self.old.bench ts
-            → OnOk result (RunnerTakes ts self.old self.new line.now (W.told writer.old).held waiting.old.items (W.told writer.new).held waiting.new.items) }
+        ensures takes { (members : List InState) (ts : List TransactionData) → BenchStands self.old.bench members ts
+            → OnOk result (RunnerTakes members ts self.old self.new line.now (W.told writer.old).held waiting.old.items (W.told writer.new).held waiting.new.items) }
         ensures failed { WriterTells (W.told writer.old) (W.told writer.new) result }
     {
         match parse_request(self.bench.context(), line) {
@@ -86,9 +113,9 @@ impl<'p> Runner<'p> {
         waiting: &mut Waiting,
         writer: &mut W,
     ) -> Result<(), RunFault>
-        ensures takes { (ts : List TransactionData) (line : List ℕ) → BenchStands self.old.bench ts
+        ensures takes { (members : List InState) (ts : List TransactionData) (line : List ℕ) → BenchStands self.old.bench members ts
             → SpellsRequest (mode self.old.bench.profile.now ts) line (request_data request)
-            → OnOk result (RunnerTakes ts self.old self.new line (W.told writer.old).held waiting.old.items (W.told writer.new).held waiting.new.items) }
+            → OnOk result (RunnerTakes members ts self.old self.new line (W.told writer.old).held waiting.old.items (W.told writer.new).held waiting.new.items) }
         ensures failed { WriterTells (W.told writer.old) (W.told writer.new) result }
     {
         match Host::new(self.bench.profile(), request) {
@@ -104,9 +131,9 @@ impl<'p> Runner<'p> {
         waiting: &mut Waiting,
         writer: &mut W,
     ) -> Result<(), RunFault>
-        ensures takes { (ts : List TransactionData) (request : RequestData) (line : List ℕ) → BenchStands self.old.bench ts
+        ensures takes { (members : List InState) (ts : List TransactionData) (request : RequestData) (line : List ℕ) → BenchStands self.old.bench members ts
             → SpellsRequest (mode self.old.bench.profile.now ts) line request → IsNewHost self.old.bench.profile.now request host.entry
-            → OnOk result (RunnerTakes ts self.old self.new line (W.told writer.old).held waiting.old.items (W.told writer.new).held waiting.new.items) }
+            → OnOk result (RunnerTakes members ts self.old self.new line (W.told writer.old).held waiting.old.items (W.told writer.new).held waiting.new.items) }
         ensures failed { WriterTells (W.told writer.old) (W.told writer.new) result }
     {
         packet_is_not_empty();

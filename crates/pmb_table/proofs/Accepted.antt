@@ -1,7 +1,7 @@
 -- What holds of each command that a device may have, and of each device of a bus: it holds with
 -- one more of them, and of the one that a search finds. For `read_devices`, `read_device`, `read_next`,
 -- `first_commands`, `standard_ones` and `DeviceProfile::entry` and `initial`.
-use Rattle.std.proofs.Common.{◌≡◌, ◌≤◌, ℕ, ◌++◌, arith, length, List, [], ◌∷◌, Bool, true, false, cond, Some, None, map, nat_eq, subst, sym}
+use Rattle.std.proofs.Common.{◌≡◌, ◌≤◌, ℕ, ◌++◌, arith, length, List, [], ◌∷◌, Bool, true, false, cond, Some, None, map, nat_eq, refl, subst, sym}
 use Rattle.std.proofs.Common.{zero, suc, Option, Result, Ok, Err, not, ◌||◌}
 use Rattle.std.specs.Prelude.{IfOk, IfSome, option_map, slice_get}
 use Rattle.std.specs.declared.alloc.AllocError.{AllocError}
@@ -15,8 +15,11 @@ use Rattle.pmb_command.specs.Units.{standard_unit}
 use Rattle.pmb_keys.specs.CommandView.{bit_parts}
 use Rattle.pmb_keys.specs.declared.command.NamedBit.{NamedBit as CodeBit}
 use Rattle.pmb_command.specs.Entry.{EntryParts}
-use Rattle.pmb_command.specs.Parts.{CommandParts, InitialParts, Same, Each, initial_on}
-use Rattle.pmb_table.specs.Profile.{put, standard_commands}
+use Rattle.pmb_command.specs.Parts.{CommandParts, DeviceParts, InitialParts, Same, Each, initial_on}
+use Rattle.pmb_keys.specs.DeviceKeys.{DeviceKeys}
+use Rattle.pmb_keys.specs.Rules.{bind, unless}
+use Rattle.pmb_keys.specs.declared.fault.FaultKind.TheVariants as faults
+use Rattle.pmb_table.specs.Profile.{first_protection_fits, modes_fit, protection_fits, put, standard_commands, together}
 use Rattle.pmb_table.specs.machine.CommandMap.{IsCommandOf}
 
 -- what holds of all and of one more holds of all of them
@@ -121,7 +124,35 @@ pub first_are_of : (r : Result (List CommandParts) AllocError) → IfOk r (λ cs
 first_are_of (Ok cs) is all = λ pages. standard_commands_of pages cs is all
 first_are_of (Err e) is all = tt
 
--- modes that fit are the same where there is one for all pages
-pub same_where_one : (one same : Bool) → (not one || same) ≡ true → one ≡ true → same ≡ true
-same_where_one true same fit is = fit
-same_where_one false same fit is = cc
+-- what is asked for where something is so holds where it is so
+pub holds_where : (so holds : Bool) → (not so || holds) ≡ true → so ≡ true → holds ≡ true
+holds_where true holds fit is = fit
+holds_where false holds fit is = cc
+
+-- what holds of an address holds of that of the device that has it
+pub of_address : {E : Type 0} (P : ℕ → Type 0) (address : ℕ) (r : Result DeviceParts E)
+    → IfOk r (λ d. d.address ≡ address) → P address → IfOk r (λ d. P d.address)
+of_address P address (Ok d) same holds = subst P (sym same) holds
+of_address P address (Err e) same holds = tt
+
+-- What keys and commands that go together keep to: the modes, and what WRITE_PROTECT is and begins with.
+pub record GoTogether (keys : DeviceKeys) (commands : List CommandParts) : Type 0 where
+  pub modes : modes_fit commands keys.modes ≡ true
+  pub protection : protection_fits keys.protect commands ≡ true
+  pub first_protection : first_protection_fits keys.protect commands ≡ true
+
+pub go_together : (keys : DeviceKeys) (commands : List CommandParts) → together keys commands ≡ Ok tt
+    → GoTogether keys commands
+go_together keys commands is =
+    let all = by (modes_fit commands keys.modes) (protection_fits keys.protect commands)
+    (first_protection_fits keys.protect commands) is in
+    record { modes = all.0; protection = all.1; first_protection = all.2 }
+  where
+    by : (modes protection first : Bool)
+        → bind (unless faults.BadValue modes) (λ _. bind (unless faults.BadValue protection) (λ _.
+        unless faults.BadInitial first)) ≡ Ok tt
+        → (modes ≡ true) × (protection ≡ true) × (first ≡ true)
+    by true true true is = (refl, refl, refl)
+    by true true false is = cc
+    by true false first is = cc
+    by false protection first is = cc

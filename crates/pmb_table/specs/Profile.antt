@@ -11,7 +11,8 @@ use Rattle.pmb_table.specs.declared.fault.ProfileFault.{ProfileFault}
 use Rattle.pmb_command.specs.Commands.{standard_entry}
 use Rattle.pmb_command.specs.Standard.{standard_command}
 use Rattle.pmb_keys.specs.CommandRules.{command_of}
-use Rattle.pmb_command.specs.Parts.{CommandParts, DeviceParts, IsNew, all_same, has_one_mode}
+use Rattle.pmb_command.specs.Parts.{CommandParts, DeviceParts, IsNew, all_same, command_with, has_one_mode}
+use Rattle.pmb_command.specs.Protection.{begins_protected, can_protect}
 use Rattle.pmb_keys.specs.DeviceKeys.{DeviceKeys, device_keys}
 use Rattle.pmb_keys.specs.IgnoreRule.{ignore_rule}
 use Rattle.pmb_keys.specs.Rules.{bind, unless, only, typed, required, optional, item_count}
@@ -58,6 +59,21 @@ commands_after n pages taken commands (item d ds) =
 abbrev pub modes_fit : List CommandParts → List ℕ → Bool
 modes_fit commands modes = not (has_one_mode commands) || all_same modes
 
+-- a device that keeps to WRITE_PROTECT has it as a byte
+abbrev pub protection_fits : Bool → List CommandParts → Bool
+protection_fits protect commands = not protect || can_protect (command_with 0x10 commands)
+
+-- which begins with one of its four values
+abbrev pub first_protection_fits : Bool → List CommandParts → Bool
+first_protection_fits protect commands = not protect || begins_protected (command_with 0x10 commands)
+
+-- what the keys of a device and its commands say goes together, or the first fault
+abbrev pub together : DeviceKeys → List CommandParts → Result Unit FaultKind
+together keys commands =
+    bind (unless faults.BadValue (modes_fit commands keys.modes)) (λ _.
+    bind (unless faults.BadValue (protection_fits keys.protect commands)) (λ _.
+    unless faults.BadInitial (first_protection_fits keys.protect commands)))
+
 -- the device of what its keys say, with these commands
 abbrev pub device_parts : DeviceKeys → List CommandParts → DeviceParts
 device_parts keys commands = record {
@@ -69,6 +85,7 @@ device_parts keys commands = record {
   vout_direct = keys.vout_direct;
   vid = keys.vid;
   phases = keys.phases;
+  protect = keys.protect;
   commands = commands;
 }
 
@@ -87,7 +104,7 @@ device_of ignored before d =
     let n = length before in
     bind (placed (at_device n) (keys_of ignored before d)) (λ keys.
     bind (device_commands n keys) (λ commands.
-    bind (placed (at_device n) (unless faults.BadValue (modes_fit commands keys.modes))) (λ _.
+    bind (placed (at_device n) (together keys commands)) (λ _.
     Ok (device_parts keys commands))))
 
 -- The devices after further values, where these came before.

@@ -33,6 +33,8 @@ pub struct DeviceProfile {
     vout_direct: Option<Direct>,
     vid: Option<VidTables>,
     phases: Option<u8>,
+    /// Whether it keeps to WRITE_PROTECT.
+    protect: bool,
     commands: CommandMap,
 }
 
@@ -53,6 +55,7 @@ impl Model for DeviceProfile {
       vout_direct = d.vout_direct;
       vid = option_map vid_parts d.vid;
       phases = d.phases;
+      protect = d.protect;
       commands = d.commands;
     } };
 
@@ -65,6 +68,7 @@ impl Model for DeviceProfile {
       vout_direct = d.vout_direct;
       vid = option_map vid_parts d.vid;
       phases = d.phases;
+      protect = d.protect;
       commands = d.commands;
     }) };
 }
@@ -110,6 +114,7 @@ impl DeviceProfile {
             vout_direct: keys.vout_direct,
             vid: keys.vid,
             phases: keys.phases,
+            protect: keys.protect,
             commands,
         }
     }
@@ -183,6 +188,13 @@ impl DeviceProfile {
         ensures within { IfSome result (λ n. (1 ≤ n) × (n ≤ 255)) }
     {
         self.phases
+    }
+
+    /// Whether it keeps to WRITE_PROTECT: a write that its value disables does nothing.
+    pub fn protects(&self) -> bool
+        ensures { result ≡ self.now.protect }
+    {
+        self.protect
     }
 
     /// How many commands there are.

@@ -2,15 +2,15 @@
 //!
 //! Its rows: `tests/rows/profiles.txt`.
 
-ghost use Rattle.std.specs.Prelude.{◌≡◌, ◌⊎◌, ◌<◌, ◌≤◌, [], false, true, map, length, Ok, Err, IfOk, IfErr};
+ghost use Rattle.std.specs.Prelude.{◌≡◌, ◌⊎◌, ◌<◌, ◌≤◌, [], false, map, length, Ok, Err, IfOk, IfErr};
 ghost use Rattle.std.specs.List.{AllByRecursion};
 ghost use Rattle.toml.specs.View.{view, items_view};
 ghost use Rattle.pmb_command.specs.Bus.{IsDevice};
 ghost use Rattle.pmb_command.specs.Parts.{HaveOwnAddresses, HaveOwnCodes, IsNew};
 ghost use Rattle.pmb_keys.specs.DeviceKeysView.{keys_parts};
 ghost use Rattle.pmb_table.specs.machine.CommandMap.{IsCommandOf};
-ghost use Rattle.pmb_table.specs.Profile.{AreApart, at_device, at_top, device_of, device_commands, device_parts, devices_after, keys_of, modes_fit, needs_memory, placed};
-ghost use Rattle.pmb_keys.specs.Rules.{bind, unless};
+ghost use Rattle.pmb_table.specs.Profile.{AreApart, at_device, at_top, device_of, device_commands, device_parts, devices_after, keys_of, needs_memory, placed, together};
+ghost use Rattle.pmb_keys.specs.Rules.{bind};
 
 use crate::command_map::CommandMap;
 use crate::device_commands::{first_commands, read_commands};
@@ -18,6 +18,7 @@ use crate::device_profile::DeviceProfile;
 use crate::fault::ProfileFault;
 use crate::modes::{are_bytes, check_modes};
 use crate::place;
+use crate::protection::check_protection;
 use crate::standard_commands::StandardCommands;
 use arrayvec::ArrayVec;
 use pmb_keys::{DeviceKeys, FaultKind, Ignored, read_device_keys};
@@ -54,17 +55,26 @@ fn commands_of(
     read_commands(alloc, number, keys.pages, first, keys.commands)
 }
 
-/// The device of these keys and commands, whose modes are tested. No memory is taken.
+/// Refuses keys and commands of a device that do not go together.
+fn check_together(keys: &DeviceKeys, commands: &CommandMap) -> Result<(), FaultKind>
+    ensures { result ≡ together (keys_parts keys.now) commands.now }
+{
+    check_modes(commands, keys.modes.as_slice())?;
+    check_protection(commands, keys.protect)
+}
+
+/// The device of these keys and commands, if they go together. No memory is taken.
 fn device_from(
     number: u8,
     keys: DeviceKeys,
     commands: CommandMap,
 ) -> Result<DeviceProfile, ProfileFault>
-    requires { modes_fit commands (keys_parts keys).modes ≡ true → IsDevice (device_parts (keys_parts keys) commands) }
-    ensures read { result ≡ bind (placed (at_device number) (unless FaultKind.BadValue (modes_fit commands (keys_parts keys.entry).modes))) (λ _. Ok (device_parts (keys_parts keys.entry) commands)) }
+    requires { together (keys_parts keys) commands ≡ Ok tt → IsDevice (device_parts (keys_parts keys) commands) }
+    ensures read { result ≡ bind (placed (at_device number) (together (keys_parts keys.entry) commands)) (λ _. Ok (device_parts (keys_parts keys.entry) commands)) }
     ensures device { IfOk result IsDevice }
+    ensures address { IfOk result (λ d. d.address ≡ keys.entry.address) }
 {
-    match check_modes(&commands, keys.modes.as_slice()) {
+    match check_together(&keys, &commands) {
         Ok(()) => Ok(DeviceProfile::new(keys, commands)),
         Err(what) => Err(place::in_device(number, what)),
     }

@@ -26,6 +26,7 @@ pub mod laws;
 mod modes;
 mod place;
 mod profile;
+mod protection;
 mod sample;
 mod standard_commands;
 

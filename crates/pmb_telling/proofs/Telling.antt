@@ -34,8 +34,8 @@ module _ (choice : ChoiceData) (profile : List DeviceParts) (after : AfterBadTok
     (given told : List ℕ) (stands : TellerStands choice profile after old given told) where
   -- after a piece more is wanted, or none whatever follows
   takes_flow : (piece more : List ℕ) (flow : Flow)
-      → Either (HasPutOut IsNothing stands.start new.teller (given ++ piece) (told ++ more))
-      (HasStopped IsNothing stands.start new.teller (given ++ piece) (told ++ more)) flow
+      → Either (HasPutOut IsNothing stands.start new.teller.value (given ++ piece) (told ++ more))
+      (HasStopped IsNothing stands.start new.teller.value (given ++ piece) (told ++ more)) flow
       → Either (TellerStands choice profile after new (given ++ piece) (told ++ more))
       (StopsTold choice profile after (given ++ piece) (told ++ more) (counted_by new)) flow
   takes_flow piece more More put_out = record {
@@ -57,8 +57,8 @@ module _ (choice : ChoiceData) (profile : List DeviceParts) (after : AfterBadTok
   module _ (h0 : Option (List ℕ)) (w0 : List ℕ) (h1 : Option (List ℕ)) (w1 : List ℕ) where
     pub takes_told : (piece : List ℕ) (result : Result Flow RunFault)
         → IfOk result (λ flow. PutsOut (λ more. Either
-        (HasPutOut IsNothing stands.start new.teller (given ++ piece) (told ++ more))
-        (HasStopped IsNothing stands.start new.teller (given ++ piece) (told ++ more)) flow) h0 w0 h1 w1)
+        (HasPutOut IsNothing stands.start new.teller.value (given ++ piece) (told ++ more))
+        (HasStopped IsNothing stands.start new.teller.value (given ++ piece) (told ++ more)) flow) h0 w0 h1 w1)
         → IfOk result (λ flow. PutsOut (λ more. Either
         (TellerStands choice profile after new (given ++ piece) (told ++ more))
         (StopsTold choice profile after (given ++ piece) (told ++ more) (counted_by new)) flow) h0 w0 h1 w1)
@@ -68,7 +68,8 @@ module _ (choice : ChoiceData) (profile : List DeviceParts) (after : AfterBadTok
 
     -- what is put out at the end
     pub ends_told : (result : Result (Unit {0}) RunFault)
-        → OnOk result (PutsOut (λ more. HasEnded IsNothing stands.start new.teller given (told ++ more)) h0 w0 h1 w1)
+        → OnOk result (PutsOut (λ more. HasEnded IsNothing stands.start new.teller.value given (told ++ more)) h0 w0
+        h1 w1)
         → OnOk result (PutsOut (λ more. WritesTold choice profile after given (told ++ more) (counted_by new)) h0 w0
         h1 w1)
     ends_told (Ok done) puts = record {

@@ -15,7 +15,7 @@ use Rattle.pmb_telling.specs.machine.Standing.{teller_tally}
 
 -- how many packets it counted, and how many refusals and words that are no token
 abbrev pub counted_by : CaptureTeller → Tally
-counted_by teller = teller_tally teller.teller
+counted_by teller = teller_tally teller.teller.value
 
 -- It tells under this choice and this profile, which was accepted, and wants more: it was given these bytes
 -- since it was made, and put out this text for them. By the law `tellers_have_told` the text is what is told
@@ -27,4 +27,4 @@ pub record TellerStands (choice : ChoiceData) (profile : List DeviceParts) (afte
   pub same_choice : teller_choice start ≡ choice
   pub same_profile : teller_profile start ≡ profile
   pub same_after : teller_bad_words start ≡ after
-  pub put_out : HasPutOut IsNothing start teller.teller given told
+  pub put_out : HasPutOut IsNothing start teller.teller.value given told

@@ -14,30 +14,37 @@ ghost use Rattle.pmb_telling.specs.Text.{WritesTold};
 ghost use Rattle.pmb_telling.specs.declared.capture_teller.CaptureTeller.{CaptureTeller};
 
 use crate::engine::{Teller, fronts_are_written};
+use crate::whole::boxed_teller;
 use pmb_fact_stream::Choice;
 use pmb_io::{Engine, Flow, RunFault, Sink, Tally, Waiting};
 use pmb_keeper::Nothing;
 use pmb_scan::AfterBadToken;
 use pmb_table::Profile;
 use pmb_table::laws::accepted_bus;
+use std::alloc::{AllocError, Global};
 
 /// Writes the lines of the facts of a capture whose text comes in pieces of any size.
 ///
-/// It takes no memory. What it puts out waits in a buffer of the caller's, who
-/// [sends](pmb_io::send) it.
+/// Its engine is on the heap: [`new`](CaptureTeller::new) takes memory, and no other call does. What it
+/// puts out waits in a buffer of the caller's, who [sends](pmb_io::send) it.
 #[derive(Drop)]
 pub struct CaptureTeller<'p> {
-    teller: Teller<'p, Nothing>,
+    teller: Box<Teller<'p, Nothing>>,
 }
 
 impl<'p> CaptureTeller<'p> {
-    /// Nothing was given yet.
+    /// Nothing was given yet. Nothing large stays on the stack.
+    ///
+    /// # Errors
+    ///
+    /// There was no memory.
     pub fn new(
+        alloc: Global,
         profile: &'p Profile,
         choice: Choice<'p>,
         bad_words: AfterBadToken,
-    ) -> CaptureTeller<'p>
-        ensures { TellerStands (choice_data choice.entry) profile.now bad_words result [] [] }
+    ) -> Result<CaptureTeller<'p>, AllocError>
+        ensures { IfOk result (λ teller. TellerStands (choice_data choice.entry) profile.now bad_words teller [] []) }
     {
         // Taken apart and made again: no struct that borrows is handed on as it came.
         let Choice {
@@ -55,8 +62,9 @@ impl<'p> CaptureTeller<'p> {
             telling,
         };
         accepted_bus(profile);
-        CaptureTeller {
-            teller: Teller::new(profile, chosen, bad_words, Nothing),
+        match boxed_teller(alloc, profile, chosen, bad_words, Nothing) {
+            Some(teller) => Ok(CaptureTeller { teller }),
+            None => Err(AllocError),
         }
     }
 
@@ -85,7 +93,8 @@ impl<'p> CaptureTeller<'p> {
             (W.told writer.old).held waiting.old.items (W.told writer.new).held waiting.new.items) }
         ensures failed { WriterTells (W.told writer.old) (W.told writer.new) result }
     {
-        self.teller.take(piece, waiting, writer)
+        let teller = &mut *self.teller;
+        teller.take(piece, waiting, writer)
     }
 
     /// Takes the end of the text, and puts out the last lines. It is of no more use then.
@@ -99,7 +108,8 @@ impl<'p> CaptureTeller<'p> {
             (W.told writer.old).held waiting.old.items (W.told writer.new).held waiting.new.items) }
         ensures failed { WriterTells (W.told writer.old) (W.told writer.new) result }
     {
-        self.teller.end(waiting, writer)
+        let teller = &mut *self.teller;
+        teller.end(waiting, writer)
     }
 }
 

@@ -56,13 +56,14 @@ enum PieceRest<'b> {
     Bytes(&'b [u8]),
 }
 
-/// From the text of a capture to the lines of its facts, and to a keeper.
+/// From the text of a capture to the lines of its facts, and to a keeper. (What is short stands behind what
+/// is long: with a gap before `scan` the compiler copies it once more on the stack.)
 #[derive(Drop)]
 pub(crate) struct Teller<'p, K> {
     profile: &'p Profile,
-    bad_words: AfterBadToken,
     scan: Scan<'p>,
     kept: KeptStream<'p, K>,
+    bad_words: AfterBadToken,
     inside: EngineState,
 }
 
@@ -119,9 +120,9 @@ impl<'p, K: Keeper> Teller<'p, K> {
     {
         Teller {
             profile,
-            bad_words,
             scan,
             kept: KeptStream { stream, keeper },
+            bad_words,
             inside: EngineState::Words,
         }
     }

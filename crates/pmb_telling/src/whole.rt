@@ -65,7 +65,7 @@ pub fn tell_whole<'p, W: Sink>(
 }
 
 /// A teller to which nothing was given yet.
-fn boxed_teller<'p, K: Keeper + Drop>(
+pub(crate) fn boxed_teller<'p, K: Keeper + Drop>(
     alloc: Global,
     profile: &'p Profile,
     choice: Choice<'p>,

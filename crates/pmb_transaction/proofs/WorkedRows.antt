@@ -111,6 +111,8 @@ is_58h = record {
   own_codes = ((refl, tt), (tt, tt));
   commands = (command_03h, (command_88h, tt));
   items = (tt, (tt, tt));
+  protection = λ is. absurd (cc is);
+  first_protection = λ is. absurd (cc is);
 }
 
 is_59h : IsDevice device_59h
@@ -128,6 +130,8 @@ is_59h = record {
   own_codes = (tt, tt);
   commands = (command_19h, tt);
   items = (tt, tt);
+  protection = λ is. absurd (cc is);
+  first_protection = λ is. absurd (cc is);
 }
 
 pub accepted : IsBus worked_bus

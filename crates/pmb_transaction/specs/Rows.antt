@@ -48,6 +48,7 @@ device_58h = record {
   vout_direct = None;
   vid = None;
   phases = None;
+  protect = false;
   commands =
       clear_faults ∷ read_vin ∷ [];
 }
@@ -63,6 +64,7 @@ device_59h = record {
   vout_direct = None;
   vid = None;
   phases = None;
+  protect = false;
   commands = capability
       ∷ [];
 }

@@ -118,7 +118,9 @@ impl<'p> Late<'p> {
     }
 }
 
-// What is known at first of the device at each address.
+// What is known at first of the device at each address. It is not inlined, so that what it is made of is off
+// the stack after it.
+#[inline(never)]
 fn all_first_known(profile: &Profile, start: Start) -> ArrayVec<Known, 128>
     ensures { Keeps result.items profile.now (first_known start) }
 {

@@ -9,6 +9,7 @@ use crate::shapes::{
     BLOCK, BYTE, CALL_WORD, FOUR, MASK, READ_BLOCK, READ_BYTE, READ_EIGHT, READ_WORD,
     SEND_AND_READ_BYTE, SNAPSHOT, WORD, WRITE_BLOCK, WRITE_EIGHT, WRITE_WORD,
 };
+use pmb_command::is_protection;
 use pmb_table::{Entry, Profile, Shape};
 use pmb_value::VidTable;
 use std::alloc::Global;
@@ -107,5 +108,48 @@ fn commands(rt: HostRuntime) {
         check_entry(&rt, keys, device.entry_at(0), parts);
         let found = (device.len(), device.initial(parts.0, 0));
         same(&rt, ("at", keys), found, (1, *initial));
+    }
+}
+
+/// Keys of a device, which name the row, and whether it keeps to WRITE_PROTECT.
+static PROTECTED: [(&str, bool); 4] = [
+    ("standard = true", false),
+    ("protect = false", false),
+    ("protect = true", true),
+    (
+        "protect = true, standard = false, command = [{ name = 'WRITE_PROTECT', initial = '40' }]",
+        true,
+    ),
+];
+
+#[test]
+fn protected_devices(rt: HostRuntime) {
+    for (keys, protects) in &PROTECTED {
+        let text = format!(in rt.alloc();
+            "device = [{{ address = 0x10, pec = 'off', {keys} }}]"
+        ).expect(&rt, "memory");
+        let profile = profile_of(&rt, rt.alloc(), text.as_str());
+        let device = profile.device(0x10).expect(&rt, "a device");
+        same(&rt, ("at", *keys), device.protects(), *protects);
+    }
+}
+
+/// Bytes, and whether WRITE_PROTECT may hold them.
+static PROTECTIONS: [(&[u8], bool); 9] = [
+    (b"\x80", true),
+    (b"\x40", true),
+    (b"\x20", true),
+    (b"\x00", true),
+    (b"\x01", false),
+    (b"\xc0", false),
+    (b"\xff", false),
+    (b"", false),
+    (b"\x80\x00", false),
+];
+
+#[test]
+fn protections(rt: HostRuntime) {
+    for (bytes, is_one) in &PROTECTIONS {
+        same(&rt, *bytes, is_protection(bytes), *is_one);
     }
 }

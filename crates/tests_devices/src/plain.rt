@@ -10,4 +10,4 @@ mod profiles;
 mod registers;
 
 pub(crate) use device::PlainDevice;
-pub(crate) use profiles::{EVERY_KIND, many_devices};
+pub(crate) use profiles::{EVERY_KIND, PROTECTED, many_devices};

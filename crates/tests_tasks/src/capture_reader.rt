@@ -1,7 +1,7 @@
 //! A capture that is fed in pieces. `refused_memory_loses_nothing` passes whichever one allocation is
 //! refused: `rt try --test --fail-alloc N -- refused_memory` refuses the Nth.
 
-use pmb_capture_reader::{CaptureReader, Fed, ReaderGround};
+use pmb_capture_reader::{Answer, CaptureReader, Fed, ReaderGround, Task, Work};
 use pmb_cli::{AfterBadToken, Choice, Digits, Start, Telling};
 use pmb_io::Tally;
 use pmb_table::{BusProfile, Profile, SAMPLE};
@@ -17,6 +17,10 @@ const CAPTURE: &[u8] =
 const TOLD: &str =
     "{\"at\":0,\"line\":2,\"column\":1,\"time\":\"0.000025000\",\"kind\":\"write\",\"device\":\"58\",\"code\":\"21\",\"command\":\"VOUT_COMMAND\",\"page\":0,\"bytes\":\"0018\",\"pec\":true,\"value\":\"12\",\"number\":12,\"mode\":\"assumed\",\"unit\":\"V\"}\n{\"at\":12,\"line\":4,\"column\":1,\"time\":\"0.000545000\",\"kind\":\"read\",\"device\":\"58\",\"code\":\"79\",\"command\":\"STATUS_WORD\",\"page\":0,\"bytes\":\"4088\",\"pec\":false,\"bits\":[\"VOUT\",\"POWER_GOOD_N\",\"OFF\"]}\n{\"at\":25,\"line\":5,\"column\":1,\"kind\":\"bad_token\",\"word\":\"xyz\"}\n{\"kind\":\"device\",\"device\":\"58\",\"writes\":1,\"reads\":1,\"calls\":0,\"refused\":0,\"refusals\":0}\n{\"kind\":\"end\",\"packets\":2,\"refusals\":0,\"bad_tokens\":1}\n";
 
+/// What is told of a capture with no packet.
+const NO_PACKETS: &str =
+    "{\"kind\":\"end\",\"packets\":0,\"refusals\":0,\"bad_tokens\":0}\n";
+
 /// Objects of all devices, where PAGE and VOUT_MODE are assumed.
 fn json() -> Choice<'static> {
     Choice {
@@ -28,8 +32,20 @@ fn json() -> Choice<'static> {
     }
 }
 
-fn reader_of(alloc: Global, profile: &Profile) -> CaptureReader<'_> {
+fn reader_of(alloc: Global, profile: &Profile) -> Result<CaptureReader<'_>, AllocError> {
     CaptureReader::new(alloc, profile, json(), AfterBadToken::End)
+}
+
+/// Has a reader do a task by its one call.
+fn answer_to(
+    reader: &mut CaptureReader<'_>,
+    task: Task,
+    piece: &[u8],
+    room: &mut [u8],
+) -> Option<Answer> {
+    let mut work = Work::new(task, piece, room);
+    reader.act(&mut work);
+    work.answer
 }
 
 /// Takes all that is ready, a byte at a time.
@@ -46,7 +62,7 @@ fn take_all(reader: &mut CaptureReader<'_>, text: &mut Vec<u8>) -> Result<(), Al
 
 /// What is told of pieces, and of the end after them.
 fn told_of(alloc: Global, profile: &Profile, pieces: [&[u8]; 2]) -> Result<Vec<u8>, AllocError> {
-    let mut reader = reader_of(alloc, profile);
+    let mut reader = reader_of(alloc, profile)?;
     let mut text = Vec::new(alloc);
     reader.feed(pieces[0]);
     take_all(&mut reader, &mut text)?;
@@ -59,7 +75,7 @@ fn told_of(alloc: Global, profile: &Profile, pieces: [&[u8]; 2]) -> Result<Vec<u
 #[test]
 fn tells_a_capture_that_is_fed_whole(rt: HostRuntime) -> Result<(), Fail> {
     let profile = Profile::from_toml(rt.alloc(), SAMPLE.as_bytes())?;
-    let mut reader = reader_of(rt.alloc(), &profile);
+    let mut reader = reader_of(rt.alloc(), &profile)?;
     assert!(rt; reader.feed(b"") == Fed::More && reader.ready() == 0);
     assert!(rt; reader.feed(CAPTURE) == Fed::Ended);
     let ready = reader.ready();
@@ -102,8 +118,9 @@ fn tells_the_same_byte_by_byte(rt: HostRuntime) -> Result<(), Fail> {
         start: Start::AllKnown,
         bad_words: AfterBadToken::End,
         telling: Telling::Objects,
+        alloc: rt.alloc(),
     };
-    let mut reader = CaptureReader::over(rt.alloc(), &borrowed);
+    let mut reader = CaptureReader::over(&borrowed)?;
     let mut text = Vec::new(rt.alloc());
     for byte in CAPTURE {
         reader.feed(&[*byte]);
@@ -117,12 +134,35 @@ fn tells_the_same_byte_by_byte(rt: HostRuntime) -> Result<(), Fail> {
 #[test]
 fn tells_the_end(rt: HostRuntime) -> Result<(), Fail> {
     let profile = Profile::from_toml(rt.alloc(), SAMPLE.as_bytes())?;
-    let mut reader = reader_of(rt.alloc(), &profile);
+    let mut reader = reader_of(rt.alloc(), &profile)?;
     assert!(rt; reader.end() == Fed::Ended && reader.end() == Fed::Ended);
     let mut room = [0; 64];
     let count = reader.take(&mut room);
-    let told = "{\"kind\":\"end\",\"packets\":0,\"refusals\":0,\"bad_tokens\":0}\n";
-    assert!(rt; &room[..count] == told.as_bytes());
+    assert!(rt; &room[..count] == NO_PACKETS.as_bytes());
+    Ok(())
+}
+
+/// Of all that is ready, ten bytes are taken first.
+#[test]
+fn does_each_task_by_one_call(rt: HostRuntime) -> Result<(), Fail> {
+    let profile = Profile::from_toml(rt.alloc(), SAMPLE.as_bytes())?;
+    let mut reader = reader_of(rt.alloc(), &profile)?;
+    let read = answer_to(&mut reader, Task::Feed, CAPTURE, &mut []);
+    let mut room = [0; 10];
+    let taken = answer_to(&mut reader, Task::Take, b"", &mut room);
+    let mut wanted = Answer {
+        state: Fed::Ended,
+        ready: TOLD.len(),
+        moved: 0,
+        tally: Tally {
+            packets: 2,
+            refusals: 1,
+        },
+    };
+    assert!(rt; read == Some(wanted));
+    wanted.moved = 10;
+    assert!(rt; taken == Some(wanted));
+    assert!(rt; room.as_slice() == &TOLD.as_bytes()[..10]);
     Ok(())
 }
 
@@ -134,11 +174,19 @@ fn sample(alloc: Global) -> Result<Profile, Fail> {
     }
 }
 
+/// A reader, at the second try where memory was refused.
+fn reader_again<'p>(alloc: Global, profile: &'p Profile) -> Result<CaptureReader<'p>, AllocError> {
+    match reader_of(alloc, profile) {
+        Ok(reader) => Ok(reader),
+        Err(_) => reader_of(alloc, profile),
+    }
+}
+
 /// Two packets, and then the rest: the first two lines wait while the others are made.
 #[test]
 fn refused_memory_loses_nothing(rt: HostRuntime) -> Result<(), Fail> {
     let profile = sample(rt.alloc())?;
-    let mut reader = reader_of(rt.alloc(), &profile);
+    let mut reader = reader_again(rt.alloc(), &profile)?;
     let (first, rest) = CAPTURE.split_at(92);
     let one = reader.feed(first);
     let ready = reader.ready();

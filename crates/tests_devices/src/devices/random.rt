@@ -2,7 +2,7 @@
 
 use crate::compare::{ensure, same};
 use crate::devices::compared::Compared;
-use crate::plain::{EVERY_KIND, many_devices};
+use crate::plain::{EVERY_KIND, PROTECTED, many_devices};
 use plain_packets::Random;
 use pmb_bus::pec_of;
 use pmb_device::HostSignal;
@@ -31,7 +31,27 @@ impl Script {
     }
 }
 
-/// Appends random data in a form; of PAGE mostly a page.
+/// A byte of a command's data: of PAGE mostly a page, of WRITE_PROTECT mostly one of its values.
+fn data_byte(random: &mut Random, code: u8) -> u8 {
+    match code {
+        0x00 => match random.below(6) {
+            0 => 0xff,
+            1 => 1,
+            2 => random.byte(),
+            _ => 0,
+        },
+        0x10 => match random.below(8) {
+            0 => 0x80,
+            1 => 0x40,
+            2 => 0x20,
+            3 => random.byte(),
+            _ => 0,
+        },
+        _ => random.byte(),
+    }
+}
+
+/// Appends random data in a form.
 fn put_data(
     random: &mut Random,
     bytes: &mut Vec<u8>,
@@ -43,17 +63,7 @@ fn put_data(
         bytes.push(count)?;
     }
     for _ in 0..count {
-        let byte = if code == 0x00 {
-            match random.below(6) {
-                0 => 0xff,
-                1 => 1,
-                2 => random.byte(),
-                _ => 0,
-            }
-        } else {
-            random.byte()
-        };
-        bytes.push(byte)?;
+        bytes.push(data_byte(random, code))?;
     }
     Ok(())
 }
@@ -307,7 +317,7 @@ fn act_by_the_rules<R: Abort>(
     Ok(())
 }
 
-// 20,000 lists in all.
+// 24,000 lists in all.
 
 #[test]
 fn the_sample_acts_by_the_rules(rt: HostRuntime) -> Result<(), Fail> {
@@ -317,6 +327,11 @@ fn the_sample_acts_by_the_rules(rt: HostRuntime) -> Result<(), Fail> {
 #[test]
 fn every_kind_acts_by_the_rules(rt: HostRuntime) -> Result<(), Fail> {
     act_by_the_rules(&rt, rt.alloc(), EVERY_KIND.as_bytes(), 0x1234_5677, 13_000)
+}
+
+#[test]
+fn protected_devices_act_by_the_rules(rt: HostRuntime) -> Result<(), Fail> {
+    act_by_the_rules(&rt, rt.alloc(), PROTECTED.as_bytes(), 0x0010_8040, 4_000)
 }
 
 #[test]

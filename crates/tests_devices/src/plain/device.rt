@@ -346,13 +346,33 @@ impl<'p> PlainDevice<'p> {
         Ok(Effect::Nothing)
     }
 
+    /// Whether WRITE_PROTECT disables a write, or is to take a value that it doesn't have.
+    fn is_disabled(&self, code: u8, data: &[u8]) -> bool {
+        if !self.device.protects() {
+            return false;
+        }
+        if code == 0x10 {
+            return !matches!(data, [0x80] | [0x40] | [0x20] | [0x00]);
+        }
+        match self.registers.register(0, 0x10) {
+            Some([0x80]) => true,
+            Some([0x40]) => code != 0x00 && code != 0x01,
+            Some([0x20]) => code > 0x02 && code != 0x21,
+            _ => false,
+        }
+    }
+
     fn carry_out(&mut self, effect: Effect) -> Result<(), AllocError> {
         match effect {
             Effect::Nothing => {}
             Effect::Note(bit) => self.registers.note(bit),
             Effect::Write { code, alone, data } => {
-                self.registers
-                    .write(self.alloc, code, alone, data.as_slice())?;
+                if self.is_disabled(code, data.as_slice()) {
+                    self.registers.note(BAD_VALUE);
+                } else {
+                    self.registers
+                        .write(self.alloc, code, alone, data.as_slice())?;
+                }
             }
         }
         Ok(())

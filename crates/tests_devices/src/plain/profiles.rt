@@ -68,6 +68,52 @@ command = [
 ]
 "#;
 
+/// Devices that keep to WRITE_PROTECT: one with pages, one that begins with all protected and has no
+/// STATUS_CML that can be read; and one that does not keep to it.
+pub const PROTECTED: &str = r#"[[device]]
+address = 0x20
+pec = "off"
+pages = 2
+protect = true
+standard = false
+command = [
+    { name = "PAGE" },
+    { name = "OPERATION" },
+    { name = "ON_OFF_CONFIG" },
+    { name = "CLEAR_FAULTS" },
+    { name = "PAGE_PLUS_WRITE" },
+    { name = "WRITE_PROTECT" },
+    { name = "VOUT_COMMAND" },
+    { name = "VOUT_MARGIN_HIGH" },
+    { name = "STATUS_CML" },
+    { code = 0xe5, write = "zero", read = "two" },
+]
+
+[[device]]
+address = 0x21
+pec = "optional"
+protect = true
+standard = false
+command = [
+    { name = "OPERATION" },
+    { name = "CLEAR_FAULTS" },
+    { name = "WRITE_PROTECT", initial = "80" },
+    { name = "VOUT_COMMAND" },
+    { name = "STATUS_CML", read = "none" },
+]
+
+[[device]]
+address = 0x22
+pec = "on"
+protect = false
+standard = false
+command = [
+    { name = "WRITE_PROTECT", initial = "80" },
+    { name = "VOUT_COMMAND" },
+    { name = "STATUS_CML" },
+]
+"#;
+
 /// What the text of 64 devices begins with; one item of it, but for its address; and its end.
 const MANY_FRONT: &str = "device = [\n";
 

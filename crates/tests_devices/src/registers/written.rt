@@ -64,8 +64,27 @@ command = [
 ]
 "#;
 
+/// A device that keeps to WRITE_PROTECT.
+const PROTECTED: &str = r#"[[device]]
+address = 0x20
+pec = "off"
+pages = 2
+protect = true
+standard = false
+command = [
+    { name = "PAGE" },
+    { name = "OPERATION" },
+    { name = "ON_OFF_CONFIG" },
+    { name = "CLEAR_FAULTS" },
+    { name = "WRITE_PROTECT" },
+    { name = "VOUT_COMMAND" },
+    { name = "VOUT_MARGIN_HIGH" },
+    { name = "STATUS_CML" },
+]
+"#;
+
 #[rattlefmt::skip]
-static ROWS: [Row; 10] = [
+static ROWS: [Row; 15] = [
     ("the first values of the sample", SAMPLE, 0x58, &[
         Holds(0, 0x00, b"\x00"), Lacks(0, 0x03), Holds(0, 0x20, b"\x17"), Holds(1, 0x20, b"\x17"),
         Holds(0, 0x21, b"\x00\x00"), Lacks(2, 0x21), Lacks(0, 0x30), Holds(0, 0x88, b"\x00\xd3"),
@@ -123,6 +142,33 @@ static ROWS: [Row; 10] = [
         Write(0x00, b"\xff"), Write(0x21, b"\x00\x18"), Note(CmlBit::BadValue),
         Holds(0, 0x7e, b"\x40"), Holds(1, 0x7e, b"\x40"), Write(0x00, b"\x01"), Write(0x03, b""),
         Holds(0, 0x7e, b"\x40"), Holds(1, 0x7e, b"\x00"), Holds(1, 0x21, b"\x00\x18"),
+    ]),
+    ("80h leaves WRITE_PROTECT alone to be written", PROTECTED, 0x20, &[
+        Write(0x10, b"\x80"), Holds(1, 0x10, b"\x80"), Write(0x01, b"\x80"),
+        Holds(0, 0x01, b"\x00"), Holds(0, 0x7e, b"\x40"), Holds(1, 0x7e, b"\x00"),
+        Write(0x00, b"\x01"), Page(0), Holds(0, 0x00, b"\x00"), Write(0x7e, b"\x40"),
+        Write(0x03, b""), Holds(0, 0x7e, b"\x40"), Write(0x10, b"\x00"), Holds(0, 0x10, b"\x00"),
+        Write(0x7e, b"\x40"), Holds(0, 0x7e, b"\x00"), Write(0x01, b"\x80"),
+        Holds(0, 0x01, b"\x80"),
+    ]),
+    ("40h leaves OPERATION and PAGE too", PROTECTED, 0x20, &[
+        Write(0x10, b"\x40"), Write(0x00, b"\x01"), Page(1), Write(0x01, b"\x80"),
+        Holds(1, 0x01, b"\x80"), Holds(1, 0x7e, b"\x00"), Write(0x02, b"\x1f"),
+        Holds(1, 0x02, b"\x00"), Holds(1, 0x7e, b"\x40"), Holds(0, 0x7e, b"\x00"),
+        Write(0x21, b"\x00\x18"), Holds(1, 0x21, b"\x00\x00"),
+    ]),
+    ("20h leaves ON_OFF_CONFIG and VOUT_COMMAND too", PROTECTED, 0x20, &[
+        Write(0x10, b"\x20"), Write(0x02, b"\x1f"), Holds(0, 0x02, b"\x1f"),
+        Write(0x21, b"\x00\x18"), Holds(0, 0x21, b"\x00\x18"), Holds(0, 0x7e, b"\x00"),
+        Write(0x25, b"\x00\x1a"), Holds(0, 0x25, b"\x00\x00"), Holds(0, 0x7e, b"\x40"),
+    ]),
+    ("WRITE_PROTECT takes its four values alone", PROTECTED, 0x20, &[
+        Write(0x10, b"\x01"), Holds(0, 0x10, b"\x00"), Holds(0, 0x7e, b"\x40"),
+        Write(0x10, b"\x20"), Write(0x10, b"\xc0"), Write(0x10, b""), Holds(0, 0x10, b"\x20"),
+    ]),
+    ("a device that is not asked to keeps to nothing", SAMPLE, 0x58, &[
+        Write(0x10, b"\x80"), Write(0x21, b"\x00\x18"), Holds(0, 0x21, b"\x00\x18"),
+        Write(0x10, b"\x01"), Holds(0, 0x10, b"\x01"), Holds(0, 0x7e, b"\x00"),
     ]),
 ];
 

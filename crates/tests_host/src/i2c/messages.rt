@@ -11,7 +11,7 @@ use pmb_table::{Profile, SAMPLE};
 use std::alloc::{AllocError, Global};
 use std::test::Fail;
 
-/// What is recorded of one message.
+/// What is on the wire of one message.
 #[derive(Drop)]
 pub(crate) struct Tape {
     room: [Event; 128],
@@ -55,7 +55,7 @@ enum Kind {
 }
 
 /// A message to an address; the bytes that are written, or that the host has after it, where `ee` was
-/// not read; what comes after it; what is recorded; and why it fails.
+/// not read; what comes after it; what is on the wire; and why it fails.
 type Row = (
     Kind,
     u8,
@@ -77,7 +77,7 @@ static ROWS: [Row; 38] = [
     (Write, 0x58, "88", RepeatedStart, "S b0 A 88 A", None),
     (Read, 0x58, "00 d3 f6", Stop, "S b1 A 00 A d3 A f6 N P", None),
     (Write, 0x58, "88", RepeatedStart, "S b0 A 88 A", None),
-    (Read, 0x58, "00 d3 f6 ff ff", Stop, "S b1 A 00 A d3 A f6 A N A N N P", None),
+    (Read, 0x58, "00 d3 f6 ff ff", Stop, "S b1 A 00 A d3 A f6 A ff A ff N P", None),
     // A block by its length, without and with a packet error code.
     (Write, 0x58, "99 03 41 42 43", Stop, "S b0 A 99 A 03 A 41 A 42 A 43 A P", None),
     (Write, 0x58, "99", RepeatedStart, "S b0 A 99 A", None),

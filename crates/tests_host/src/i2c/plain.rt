@@ -133,10 +133,13 @@ pub(crate) fn send(
             break;
         };
         let recorded = bus.signal(*signal);
-        sent.events.extend_from_slice(recorded.events())?;
         answers.push(recorded.answer())?;
         if *signal == HostSignal::Ask {
-            sent.bytes.push(byte_read(recorded.answer()))?;
+            let byte = byte_read(recorded.answer());
+            sent.events.push(Event::Byte(byte))?;
+            sent.bytes.push(byte)?;
+        } else {
+            sent.events.extend_from_slice(recorded.events())?;
         }
     }
     Ok(sent)

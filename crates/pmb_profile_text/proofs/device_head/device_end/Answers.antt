@@ -1,6 +1,6 @@
 use Rattle.std.proofs.Common.{◌≡◌, ◌∙◌, ◌++◌, List, ℕ, Option, [], ap, codes, decimal, length}
 use Rattle.pmb_coefficients.specs.Coefficients.{Coefficients}
-use Rattle.pmb_profile_text.specs.Table.{field, phases_line, vid_lines}
+use Rattle.pmb_profile_text.specs.Table.{field, phases_line, protect_line, vid_lines}
 use Rattle.pmb_profile_text.specs.Words.{vout_direct_word}
 use Rattle.pmb_profile_text.proofs.Texts.{then}
 use Rattle.pmb_profile_text.proofs.device_head.device_end.Goals as goal
@@ -11,7 +11,8 @@ returns c =
     let t0 = c.append_field.new.head.items in
     let t1 = c.append_vid.new.lines.items in
     let t2 = c.append_phases.new.end.items in
-    let t3 = c.append_count.new.head.items in
+    let t3 = c.append_protect.new.end.items in
+    let t4 = c.append_count.new.head.items in
     let vout_direct = c.as_slice.ensures.value
     ∙ (c.vout_direct_word-vout_direct.ensures.word
     ∙ ap (λ (d : Option Coefficients). vout_direct_word d) c.vout_direct.ensures) in
@@ -20,6 +21,7 @@ returns c =
     ∙ ap (field (codes "vout_direct")) vout_direct) in
     let e1 : t1 ≡ t0 ++ vid_lines device.vid = c.append_vid.ensures.text in
     let e2 : t2 ≡ t1 ++ phases_line device.phases = c.append_phases.ensures.text in
-    let e3 : t3 ≡ t2 ++ field (codes "commands") (decimal (length device.commands)) = c.append_count.ensures.text
-    ∙ ap (λ (n : ℕ). t2 ++ field (codes "commands") (decimal n)) c.len.ensures.len in
-    then [] t0 t3 _ _ e0 (then t0 t1 t3 _ _ e1 (then t1 t2 t3 _ _ e2 e3))
+    let e3 : t3 ≡ t2 ++ protect_line device.protect = c.append_protect.ensures.text in
+    let e4 : t4 ≡ t3 ++ field (codes "commands") (decimal (length device.commands)) = c.append_count.ensures.text
+    ∙ ap (λ (n : ℕ). t3 ++ field (codes "commands") (decimal n)) c.len.ensures.len in
+    then [] t0 t4 _ _ e0 (then t0 t1 t4 _ _ e1 (then t1 t2 t4 _ _ e2 (then t2 t3 t4 _ _ e3 e4)))

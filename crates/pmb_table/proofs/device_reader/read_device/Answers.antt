@@ -1,19 +1,42 @@
-use Rattle.pmb_command.specs.Parts.{all_same, has_one_mode}
-use Rattle.pmb_table.proofs.Accepted.{commands_of, items_of, same_where_one}
+use Rattle.std.proofs.Common.{ℕ, map, subst, ◌∙◌}
+use Rattle.pmb_command.specs.Parts.{IsNew, all_same, command_with, has_one_mode}
+use Rattle.pmb_command.specs.Protection.{begins_protected, can_protect}
+use Rattle.pmb_keys.specs.DeviceKeysView.{keys_parts}
+use Rattle.pmb_table.proofs.Accepted.{commands_of, go_together, holds_where, items_of, of_address}
 use Rattle.pmb_table.proofs.device_reader.read_device.Goals as goal
 
 pub device_from-requires : goal.device_from-requires
-device_from-requires c = λ fit. record {
-  address = c.in-Ok.ensures.address;
-  some_page = c.in-Ok.ensures.pages.0;
-  few_pages = c.in-Ok.ensures.pages.1;
-  name = c.in-Ok.ensures.name;
-  mode_of_each = c.in-Ok.ensures.mode_of_each;
-  bytes = rw c.as_slice-2.ensures.value at c.are_bytes.ensures;
-  one_mode = same_where_one (has_one_mode c.in-Ok-commands_of.commands) (all_same c.in-Ok.keys.modes.items) fit;
-  tables = c.in-Ok.ensures.tables;
-  phases = c.in-Ok.ensures.phases;
-  own_codes = c.in-Ok-commands_of.ensures.own_codes;
-  commands = commands_of c.in-Ok.keys.pages c.in-Ok-commands_of.commands c.in-Ok-commands_of.ensures.accepted;
-  items = items_of c.in-Ok.keys.pages c.in-Ok-commands_of.commands c.in-Ok-commands_of.ensures.accepted;
-}
+device_from-requires c = λ together.
+    let commands = c.in-Ok-commands_of.commands in
+    let fit = go_together (keys_parts c.in-Ok.keys) commands together in
+    record {
+      address = c.in-Ok.ensures.address;
+      some_page = c.in-Ok.ensures.pages.0;
+      few_pages = c.in-Ok.ensures.pages.1;
+      name = c.in-Ok.ensures.name;
+      mode_of_each = c.in-Ok.ensures.mode_of_each;
+      bytes = rw c.as_slice-2.ensures.value at c.are_bytes.ensures;
+      one_mode = holds_where (has_one_mode commands) (all_same c.in-Ok.keys.modes.items) fit.modes;
+      tables = c.in-Ok.ensures.tables;
+      phases = c.in-Ok.ensures.phases;
+      own_codes = c.in-Ok-commands_of.ensures.own_codes;
+      commands = commands_of c.in-Ok.keys.pages c.in-Ok-commands_of.commands c.in-Ok-commands_of.ensures.accepted;
+      items = items_of c.in-Ok.keys.pages c.in-Ok-commands_of.commands c.in-Ok-commands_of.ensures.accepted;
+      protection = holds_where c.in-Ok.keys.protect (can_protect (command_with 0x10 commands)) fit.protection;
+      first_protection = holds_where c.in-Ok.keys.protect (begins_protected (command_with 0x10 commands)) fit.first_protection;
+    }
+
+-- the address is that of the keys, which no device before has
+pub returns-clause-own_address : goal.returns-clause-own_address
+returns-clause-own_address c =
+    let before = c.args.before.now in
+    of_address (λ (a : ℕ). IsNew a (map (λ x. x.address) before)) c.in-Ok.keys.address c.device_from.result
+    c.device_from.ensures.address
+    (subst (IsNew c.in-Ok.keys.address) (c.as_slice.ensures.value ∙ c.addresses_of-addresses.ensures)
+    c.in-Ok.ensures.own_address)
+
+-- and which is not ignored
+pub returns-clause-not_ignored : goal.returns-clause-not_ignored
+returns-clause-not_ignored c =
+    of_address (λ (a : ℕ). IsNew a c.args.ignored.now) c.in-Ok.keys.address c.device_from.result
+    c.device_from.ensures.address c.in-Ok.ensures.not_ignored

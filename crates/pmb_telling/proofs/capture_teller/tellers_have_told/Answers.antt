@@ -8,5 +8,5 @@ pub returns : goal.returns
 returns c choice profile after teller given told stands =
     named (λ k p a. WritesToldFront k p a given told) stands.start choice profile after stands.same_choice
     stands.same_profile stands.same_after
-    (c.fronts_are_written.ensures stands.start teller.teller given told
+    (c.fronts_are_written.ensures stands.start teller.teller.value given told
     (subst IsBus (sym stands.same_profile) stands.accepted) stands.put_out)

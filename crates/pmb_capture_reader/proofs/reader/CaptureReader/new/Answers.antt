@@ -9,9 +9,10 @@ returns-clause-stands c =
     let choice = choice_data c.args.choice in
     let profile = c.args.profile.now in
     let after = c.args.bad_words in
-    let stands = c.new-teller.ensures in record {
+    let teller = c.in_ok-teller.teller in
+    let stands = c.in_ok-teller.ensures in record {
       tells = subst (λ (l : List ℕ). WritesToldFront choice profile after [] l) (sym c.new-queue.ensures)
-          (c.tellers_have_told.ensures choice profile after c.new-teller.result [] [] stands);
-      teller = λ more. subst (λ (l : List ℕ). TellerStands choice profile after c.new-teller.result [] l)
+          (c.tellers_have_told.ensures choice profile after teller [] [] stands);
+      teller = λ more. subst (λ (l : List ℕ). TellerStands choice profile after teller [] l)
           (sym c.new-queue.ensures) stands;
     }

@@ -15,14 +15,14 @@ loop-init g c = record {
   lines = refl;
   tally = refl;
   failures = refl;
-  runs = λ ts request stands new.
+  runs = λ members ts request stands new.
       let bench = c.args.self.now.bench in record {
         few = omega arith;
         events = [];
         writes = c.texts_add_up.ensures.nothing (g.W.Sink.told c.args.writer.now).held c.args.waiting.now.items;
-        runs = runs_first ts bench request c.args.host c.new-exchange.result stands new c.packet_is_not_empty.ensures
+        runs = runs_first members ts bench request c.args.host c.new-exchange.result stands new c.packet_is_not_empty.ensures
             (c.new-exchange.ensures (bench_profile bench) request bench.bus
-            (begins_on ts bench request c.args.host stands new));
+            (begins_on members ts bench request c.args.host stands new));
       };
 }
 
@@ -33,40 +33,40 @@ loop-preserved g c = record {
   lines = c.loop.invariant.lines;
   tally = c.loop.invariant.tally;
   failures = c.in_ok-end.ensures.failed ∙ c.loop.invariant.failures;
-  runs = λ ts request stands new.
-      let first = beginning_on ts c.args.self.now.bench request c.args.host stands new in
-      let was = c.loop.invariant.runs ts request stands new in
+  runs = λ members ts request stands new.
+      let first = beginning_on members ts c.args.self.now.bench request c.args.host stands new in
+      let was = c.loop.invariant.runs members ts request stands new in
       let standing = record first { events = was.events; sent = c.loop.counter } in
-      sent_more c.texts_add_up.ensures.both ts first c.loop.counter c.loop.self.bench c.next.new.self c.loop.exchange
+      sent_more c.texts_add_up.ensures.both members ts first c.loop.counter c.loop.self.bench c.next.new.self c.loop.exchange
       c.next.new.exchange
       (g.W.Sink.told c.args.writer.now).held (g.W.Sink.told c.loop.writer).held (g.W.Sink.told c.next.new.writer).held
       c.args.waiting.now.items c.loop.waiting.items c.next.new.waiting.items was
       (subst
       (
       λ (end : Option HostStep).
-      RunsOn ts standing end c.next.new.self c.next.new.exchange (g.W.Sink.told c.loop.writer).held c.loop.waiting.items
+      RunsOn members ts standing end c.next.new.self c.next.new.exchange (g.W.Sink.told c.loop.writer).held c.loop.waiting.items
       (g.W.Sink.told c.next.new.writer).held c.next.new.waiting.items
-      ) c.in_default.is (c.in_ok-end.ensures.runs ts standing was.runs));
+      ) c.in_default.is (c.in_ok-end.ensures.runs members ts standing was.runs));
 }
 
 -- It has ended.
 pub returns-in-Some-clause-takes : goal.returns-in-Some-clause-takes
-returns-in-Some-clause-takes g c ts request line stands spells new =
+returns-in-Some-clause-takes g c members ts request line stands spells new =
     let before = c.args.self.now in
-    let first = beginning_on ts before.bench request c.args.host stands new in
-    let was = c.loop.invariant.runs ts request stands new in
+    let first = beginning_on members ts before.bench request c.args.host stands new in
+    let was = c.loop.invariant.runs members ts request stands new in
     let standing = record first { events = was.events; sent = c.loop.counter } in
     let ended =
     subst
     (
     λ (end : Option HostStep).
-    RunsOn ts standing end c.next.new.self c.next.new.exchange (g.W.Sink.told c.loop.writer).held c.loop.waiting.items
+    RunsOn members ts standing end c.next.new.self c.next.new.exchange (g.W.Sink.told c.loop.writer).held c.loop.waiting.items
     (g.W.Sink.told c.next.new.writer).held c.next.new.waiting.items
-    ) c.in-Some.is (c.in_ok-end.ensures.runs ts standing was.runs) in
+    ) c.in-Some.is (c.in_ok-end.ensures.runs members ts standing was.runs) in
     on_ok_weaker c.put.result
     (
     λ puts.
-    host_taken c.texts_add_up.ensures.both ts before c.count.new.self c.next.new.self c.loop.self.bench request
+    host_taken c.texts_add_up.ensures.both members ts before c.count.new.self c.next.new.self c.loop.self.bench request
     c.args.host line c.loop.counter c.in-Some.end c.loop.exchange c.next.new.exchange
     (g.W.Sink.told c.args.writer.now).held (g.W.Sink.told c.loop.writer).held (g.W.Sink.told c.next.new.writer).held
     (g.W.Sink.told c.put.new.writer).held
@@ -83,9 +83,9 @@ returns-in-Some-clause-takes g c ts request line stands spells new =
 
 -- There are never so many signals.
 pub returns-clause-takes : goal.returns-clause-takes
-returns-clause-takes g c ts request line stands spells new =
-    never_taken ts (beginning_on ts c.args.self.now.bench request c.args.host stands new) c.args.self.now c.loop.self
+returns-clause-takes g c members ts request line stands spells new =
+    never_taken members ts (beginning_on members ts c.args.self.now.bench request c.args.host stands new) c.args.self.now c.loop.self
     c.loop.self.bench c.loop.exchange line c.loop.counter
     (g.W.Sink.told c.args.writer.now).held (g.W.Sink.told c.loop.writer).held c.args.waiting.now.items
     c.loop.waiting.items
-    (c.loop.invariant.runs ts request stands new) (omega arith)
+    (c.loop.invariant.runs members ts request stands new) (omega arith)

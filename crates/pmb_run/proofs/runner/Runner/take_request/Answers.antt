@@ -12,19 +12,19 @@ use Rattle.pmb_run.proofs.runner.Runner.take_request.Goals as goal
 
 -- There is a host, which is run.
 pub returns-in-Ok-clause-takes : goal.returns-in-Ok-clause-takes
-returns-in-Ok-clause-takes g c ts line stands spells =
-    c.take_host.ensures.takes ts (request_data c.args.request) line stands spells
+returns-in-Ok-clause-takes g c members ts line stands spells =
+    c.take_host.ensures.takes members ts (request_data c.args.request) line stands spells
     (subst (λ (p : Bor (List DeviceParts)). IsNewHost p.now (request_data c.args.request) c.in-Ok.host)
     c.profile.ensures c.in-Ok.ensures.made)
 
 -- There is none, and the request's fault was put out.
 pub returns-in-Err-clause-takes : goal.returns-in-Err-clause-takes
-returns-in-Err-clause-takes g c ts line stands spells =
+returns-in-Err-clause-takes g c members ts line stands spells =
     let before = c.args.self.now in
     on_ok_weaker c.take_fault.result
     (
     λ writes.
-    fault_taken ts before c.take_fault.new.self line (host_fault_text c.in-Err.fault)
+    fault_taken members ts before c.take_fault.new.self line (host_fault_text c.in-Err.fault)
     (g.W.Sink.told c.args.writer.now).held (g.W.Sink.told c.take_fault.new.writer).held
     c.args.waiting.now.items c.take_fault.new.waiting.items
     (host_refused ts before.bench line (request_data c.args.request) c.profile.result c.in-Err.fault spells

@@ -4,6 +4,7 @@ use Rattle.pmb_build.specs.Answer.{numbered_text}
 use Rattle.pmb_io.specs.Lines.{line_text}
 use Rattle.pmb_io.specs.Outgoing.{PutsText}
 use Rattle.pmb_io.specs.declared.input_line.InputLine.{InputLine}
+use Rattle.pmb_devices.specs.Runs.{all_after, first_members}
 use Rattle.pmb_line.specs.LineFault.{fault_text}
 use Rattle.pmb_line.specs.declared.line_fault.LineFault.TheVariants as fault
 use Rattle.pmb_run.specs.Answer.{Refusal, RunsLine, most_request_line}
@@ -20,7 +21,7 @@ returns-in-Ended-clause-takes g c start given text stands =
     c.saturating_add-self.ensures refl stands
     (λ answer answers. subst (λ (line : InputLine). RunsLine (bench_profile before.bench) ts (line_text line) answer)
     (sym c.in-Ended.is) answers))
-    (c.take_text.ensures.takes ts stands.stands)
+    (c.take_text.ensures.takes (all_after ts (first_members (bench_profile before.bench))) ts stands.stands)
 
 pub returns-in-Last-clause-takes : goal.returns-in-Last-clause-takes
 returns-in-Last-clause-takes g c start given text stands =
@@ -31,7 +32,7 @@ returns-in-Last-clause-takes g c start given text stands =
     refl c.saturating_add-self.ensures refl stands
     (λ answer answers. subst (λ (line : InputLine). RunsLine (bench_profile before.bench) ts (line_text line) answer)
     (sym c.in-Last.is) answers))
-    (c.take_text-in-Last.ensures.takes ts stands.stands)
+    (c.take_text-in-Last.ensures.takes (all_after ts (first_members (bench_profile before.bench))) ts stands.stands)
 
 -- Its fault was put out.
 pub returns-in-TooLong-clause-takes : goal.returns-in-TooLong-clause-takes

@@ -1,0 +1,35 @@
+use Rattle.std.proofs.Common.{refl, sym, subst}
+use Rattle.pmb_bus_session.specs.Work.{ActsFor}
+use Rattle.pmb_bus_session.specs.declared.work.BusTask.{BusTask}
+use Rattle.pmb_bus_session.proofs.session.BusSession.act.Goals as goal
+
+-- Each task does what it is for, in the room that was lent.
+pub returns-in-Open : goal.returns-in-Open
+returns-in-Open c = record {
+  acts = record {
+    acts = subst (λ (task : BusTask). ActsFor task c.args.self.now c.answer_open.new.self c.args.work.now
+        (record c.args.work.now { answer = c.answer_open.new.answer })) (sym c.in-Open.is) (c.answer_open.ensures, refl);
+    same = refl;
+  };
+}
+
+pub returns-in-Request : goal.returns-in-Request
+returns-in-Request c = record {
+  acts = record {
+    acts = subst (λ (task : BusTask). ActsFor task c.args.self.now c.answer_request.new.self c.args.work.now
+        (record c.args.work.now { answer = c.answer_request.new.answer }))
+        (sym c.in-Request.is) (c.answer_request.ensures, refl);
+    same = refl;
+  };
+}
+
+pub returns-in-Message : goal.returns-in-Message
+returns-in-Message c = record {
+  acts = record {
+    acts = subst (λ (task : BusTask). ActsFor task c.args.self.now c.answer_message.new.self c.args.work.now
+        (record c.args.work.now { room = record c.args.work.now.room { now = c.answer_message.new.room };
+        answer = c.answer_message.new.answer }))
+        (sym c.in-Message.is) c.answer_message.ensures;
+    same = refl;
+  };
+}

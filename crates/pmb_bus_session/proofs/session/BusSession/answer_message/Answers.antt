@@ -1,0 +1,38 @@
+use Rattle.std.proofs.Common.{◌∙◌, ◌≤◌, ◌++◌, ℕ, not, Option, Result, Ok, Err, IsOk, OnOk, List, Box, ap, arith, option_map, refl, subst, sym, true≢false}
+use Rattle.std.specs.declared.alloc.Global.{Global}
+use Rattle.pmb_bus.specs.Event.{canonical_text}
+use Rattle.pmb_bus.specs.declared.event.Event.{Event}
+use Rattle.pmb_bus_session.specs.Devices.{DevicesSend}
+use Rattle.pmb_bus_session.specs.Session.{SendsMessage}
+use Rattle.pmb_bus_session.specs.declared.devices.Devices.{Devices}
+use Rattle.pmb_bus_session.proofs.session.BusSession.answer_message.Goals as goal
+
+abbrev values : Option (Box Devices Global) → Option Devices
+values devices = option_map (λ (it : Box Devices Global). it.value) devices
+
+at_ok : {T E P : Type 0} (r : Result T E) → IsOk r → OnOk r P → P
+at_ok (Ok _) is so = so
+at_ok (Err _) is so = absurd (true≢false (sym is))
+
+-- There is room for the events of any message.
+pub push_events-requires : goal.push_events-requires
+push_events-requires c =
+    let room : 49164 ≤ c.reserve.new.self.room =
+    at_ok c.reserve.result (c.is_err.ensures.negation ∙ ap not c.if-is_err.false) c.reserve.ensures.room in
+    omega (arith, c.events.ensures.few, room)
+
+-- It was sent, and its text comes after what was there.
+pub returns : goal.returns
+returns c =
+    let was = c.in-Some.devices.value in
+    let sent = c.send-sent in
+    let message = c.args.message in
+    SendsMessage.sent was sent.new.self sent.result (ap values c.in-Some.is)
+    refl
+    (subst (λ (d : Devices). DevicesSend message c.args.room.now sent.new.room d sent.new.self sent.result)
+    c.deref_mut-devices.ensures.value sent.ensures)
+    (c.push_events.ensures.left
+    ∙ (ap (λ (front : List ℕ). front ++ canonical_text c.events.result.now) c.reserve.ensures.left
+    ∙ ap (λ (events : List Event). c.args.self.now.log.left ++ canonical_text events)
+    c.events.ensures.all))
+    c.answer_of.ensures

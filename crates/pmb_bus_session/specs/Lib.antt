@@ -1,0 +1,4 @@
+pub mod Log
+pub mod Devices
+pub mod Session
+pub mod Work

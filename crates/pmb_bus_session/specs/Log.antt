@@ -1,0 +1,8 @@
+-- Text that is taken in the order in which it came.
+use Rattle.std.specs.Prelude.{ℕ, List}
+
+-- what is left of it, how many bytes more there is memory for, and how often memory was refused
+pub record LogData : Type 0 where
+  pub left : List ℕ
+  pub room : ℕ
+  pub failures : ℕ
