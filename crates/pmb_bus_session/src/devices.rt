@@ -94,11 +94,7 @@ impl<'p> Devices<'p> {
 
 /// Whether a transfer is under way after a message: nothing changes where nothing was sent, and a message
 /// that failed ends with STOP.
-fn under_way_after(
-    was_under_way: bool,
-    message: Message,
-    sent: Result<usize, SendFault>,
-) -> bool
+fn under_way_after(was_under_way: bool, message: Message, sent: Result<usize, SendFault>) -> bool
     ensures { result ≡ under_way_after was_under_way message.end sent }
 {
     match sent {

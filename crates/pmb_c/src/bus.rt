@@ -10,9 +10,7 @@ use crate::handle::PmbHandle;
 use crate::held::Held;
 use crate::profile::lent;
 use crate::result::PmbResult;
-use pmb_bus_session::{
-    BusAnswer, BusGround, BusStatus, BusTask, BusWork, Message, MessageEnd,
-};
+use pmb_bus_session::{BusAnswer, BusGround, BusStatus, BusTask, BusWork, Message, MessageEnd};
 use pmb_firmware::CallStatus;
 use pmb_open_bus::OpenBus;
 use pmb_table::BusProfile;
@@ -25,11 +23,7 @@ const NOT_OPEN: i32 = -9;
 /// Makes the devices of the profile that another handle holds. What the bus's handle held before is
 /// closed first.
 #[unsafe(no_mangle)]
-pub extern "C" fn pmb_bus_open(
-    alloc: Global,
-    bus: &mut PmbHandle,
-    profile: &mut PmbHandle,
-) -> i32
+pub extern "C" fn pmb_bus_open(alloc: Global, bus: &mut PmbHandle, profile: &mut PmbHandle) -> i32
     ensures held { profile.new.held ≡ profile.old.held }
     ensures opens { OpensBus profile.old.held bus.new.held result }
 {

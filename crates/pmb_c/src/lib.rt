@@ -21,8 +21,8 @@
 //! ```
 #![tactic(auto)]
 
-mod choice;
 pub mod bus;
+mod choice;
 pub mod explain;
 pub mod firmware;
 pub mod handle;

@@ -64,8 +64,13 @@ on_size : (bytes : List ℕ) (heard : List AnsweredSignal) → ReadsOn bytes hea
     → length (wire_events heard) ≡ 2 * length bytes
 on_size [] heard reads = size_as heard [] reads
 on_size (b ∷ bytes) heard reads =
-    omega (arith, size_as heard (reads.0 ++ reads.1) reads.2, size_both reads.0 reads.1,
-    byte_size Ack b reads.0 ack_size reads.3, on_size bytes reads.1 reads.4)
+    omega (
+      arith,
+      size_as heard (reads.0 ++ reads.1) reads.2,
+      size_both reads.0 reads.1,
+      byte_size Ack b reads.0 ack_size reads.3,
+      on_size bytes reads.1 reads.4,
+    )
 
 pub reads_size : (bytes : List ℕ) (heard : List AnsweredSignal) → Reads bytes heard
     → length (wire_events heard) ≤ 2 * length bytes
@@ -73,14 +78,27 @@ reads_size bytes heard (Reads.none empty signals) = omega (arith, size_as heard 
 reads_size bytes heard (Reads.some front last before final split reads ends signals) =
     let so_long : length bytes ≡ length front + 1 = ap (λ (l : List ℕ). length l) split
     ∙ length-append front (last ∷ []) in
-    omega (arith, size_as heard (before ++ final) signals, size_both before final, on_size front before reads,
-    byte_size Nack last final nack_size ends, so_long)
+    omega (
+      arith,
+      size_as heard (before ++ final) signals,
+      size_both before final,
+      on_size front before reads,
+      byte_size Nack last final nack_size ends,
+      so_long,
+    )
 
 pub counted_size : (bytes : List ℕ) (more : ℕ) (outcome : Result ℕ MessageFault) (heard : List AnsweredSignal)
     → ReadsCounted bytes more outcome heard → length (wire_events heard) ≤ 2 * (33 + more)
 counted_size bytes more outcome heard (ReadsCounted.counted count block first rest many few long are done reads more_reads signals) =
-    omega (arith, size_as heard (first ++ rest) signals, size_both first rest, byte_size Ack count first ack_size reads,
-    reads_size block rest more_reads, few, long)
+    omega (
+      arith,
+      size_as heard (first ++ rest) signals,
+      size_both first rest,
+      byte_size Ack count first ack_size reads,
+      reads_size block rest more_reads,
+      few,
+      long,
+    )
 counted_size bytes more outcome heard (ReadsCounted.bad_count count bad failed reads) =
     omega (arith, byte_size Nack count heard nack_size reads)
 
@@ -112,5 +130,12 @@ message_size address byte most Bytes end outcome heard short (IsMessage.no_addre
 message_size address byte most Bytes end outcome heard short (IsMessage.no_device below failed begins) =
     omega (arith, begins_size byte _ heard begins)
 message_size address byte most Bytes end outcome heard short (IsMessage.sent first bytes last below begins reads ends signals) =
-    omega (arith, size_as heard (first ++ (bytes ++ last)) signals, size_both first (bytes ++ last),
-    size_both bytes last, found_size byte first begins, short bytes reads, ends_size _ last ends)
+    omega (
+      arith,
+      size_as heard (first ++ (bytes ++ last)) signals,
+      size_both first (bytes ++ last),
+      size_both bytes last,
+      found_size byte first begins,
+      short bytes reads,
+      ends_size _ last ends,
+    )

@@ -28,9 +28,7 @@ impl Model for Tape {
 
     ghost view = { λ tape. tape.events.items };
 
-    ghost invariant = {
-        λ tape. record { few : length tape.events.items ≤ most_events; memory : most_events ≤ vec_capacity tape.events }
-    };
+    ghost invariant = { λ tape. record { few : length tape.events.items ≤ most_events; memory : most_events ≤ vec_capacity tape.events } };
 }
 
 impl Tape {

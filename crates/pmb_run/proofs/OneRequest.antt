@@ -169,15 +169,15 @@ pub next_fault : (members : List InState) (ts : List TransactionData) (before af
     → PutsText h0 w0 h1 w1 (numbered_text number why) → NextTaken members ts before after line h0 w0 h1 w1
 next_fault members ts before after number line why h0 h1 w0 w1 number_is long why_is stands same lines_are tally_is
     writes = record {
-  answer = Refusal why;
-  said = TooLong;
-  said_is = IsSaid.too_long long refl;
-  answers = ap Refusal why_is;
-  writes = subst (λ (n : ℕ). PutsText h0 w0 h1 w1 (numbered_text n why)) (sym lines_are) writes;
-  same = ap (λ (b : Bench). b.profile) same;
-  lines = lines_are ∙ number_is;
-  tally = tally_is;
-  stands = subst (λ (b : Bench). BenchStands b (all_after [] members) (ts ++ [])) (sym same)
-      (subst (λ (ms : List InState). BenchStands before.bench ms (ts ++ [])) (sym (map-id members))
-      (subst (λ (us : List TransactionData). BenchStands before.bench members us) (sym (append-nil ts)) stands));
-}
+      answer = Refusal why;
+      said = TooLong;
+      said_is = IsSaid.too_long long refl;
+      answers = ap Refusal why_is;
+      writes = subst (λ (n : ℕ). PutsText h0 w0 h1 w1 (numbered_text n why)) (sym lines_are) writes;
+      same = ap (λ (b : Bench). b.profile) same;
+      lines = lines_are ∙ number_is;
+      tally = tally_is;
+      stands = subst (λ (b : Bench). BenchStands b (all_after [] members) (ts ++ [])) (sym same)
+          (subst (λ (ms : List InState). BenchStands before.bench ms (ts ++ [])) (sym (map-id members))
+          (subst (λ (us : List TransactionData). BenchStands before.bench members us) (sym (append-nil ts)) stands));
+    }

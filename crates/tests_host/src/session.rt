@@ -3,9 +3,7 @@
 //! `rt try --test --fail-alloc N -- refused_memory` refuses the Nth.
 
 use crate::compare::same;
-use BusStatus::{
-    BadAddress, BadCount, BadFlags, BadLength, Busy, Closed, Done, NoDevice, Refused,
-};
+use BusStatus::{BadAddress, BadCount, BadFlags, BadLength, Busy, Closed, Done, NoDevice, Refused};
 use MessageEnd::{RepeatedStart, Stop};
 use Step::{Open, Request, Send};
 use plain_packets::events;
@@ -30,11 +28,18 @@ enum Step {
 
 /// A call; the bytes that are written, or that are in the room after it; what is answered: status, how many
 /// bytes, packets and refusals; and the text that is in the log after it.
-type Row = (Step, &'static str, (BusStatus, usize, u64, u64), &'static str);
+type Row = (
+    Step,
+    &'static str,
+    (BusStatus, usize, u64, u64),
+    &'static str,
+);
 
 /// The flags of messages.
 const WRITE: u16 = 0;
+
 const READ: u16 = 1;
+
 const BLOCK: u16 = 0x0401;
 
 #[rattlefmt::skip]
@@ -180,7 +185,12 @@ fn the_log_is_taken_in_order(rt: HostRuntime) -> Result<(), Fail> {
     for _ in 0..text.len() {
         let mut room = [0; 7];
         let answer = ask(&mut session, BusTask::Take, "", &mut room);
-        same(&rt, "ready", answer.ready, text.len().saturating_sub(taken.len()));
+        same(
+            &rt,
+            "ready",
+            answer.ready,
+            text.len().saturating_sub(taken.len()),
+        );
         taken.extend_from_slice(room.get(..answer.count).unwrap_or(&[]))?;
     }
     same(&rt, "text", taken.as_slice(), text.as_slice());
@@ -223,9 +233,19 @@ fn refused_memory_loses_nothing(rt: HostRuntime) -> Result<(), Fail> {
     room[0] = 0x03;
     same(&rt, "open", call_again(&mut session, Open, &mut room), Done);
     let clear = Send(0x58, WRITE, 1, Stop);
-    same(&rt, "message", call_again(&mut session, clear, &mut room), Done);
+    same(
+        &rt,
+        "message",
+        call_again(&mut session, clear, &mut room),
+        Done,
+    );
     let read = Request("read 58 88");
-    same(&rt, "request", call_again(&mut session, read, &mut room), Done);
+    same(
+        &rt,
+        "request",
+        call_again(&mut session, read, &mut room),
+        Done,
+    );
     let text = "S b0 A 03 A P\nS b0 A 88 A S b1 A 00 A d3 N P\n# 00 d3\n";
     same(&rt, "text", has_text(&mut session, text), true);
     Ok(())

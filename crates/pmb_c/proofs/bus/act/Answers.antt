@@ -26,7 +26,7 @@ no_bus taken box from after left was one work done of_taken is_box of_left left_
 
 pub returns-clause-acts : goal.returns-clause-acts
 returns-clause-acts c = elim c.match-deref_mut.branch [
-    in-Profile w ↦
+  | in-Profile w ↦
       subst (λ (a : Option BusAnswer). ActsHeld c.args.handle.now.held c.args.work.now c.of.result.held c.match-deref_mut.work a)
       (sym w.answer-is)
       (no_bus c.take.result c.in_ok-held.held c.args.handle.now.held c.of.result.held c.match-deref_mut.held.value
@@ -40,17 +40,17 @@ returns-clause-acts c = elim c.match-deref_mut.branch [
       (ap (λ (b : Box Held Global). b.value) w.held-is) c.deref_mut.ensures.value w.in-Reader.is refl w.work-is)
   | in-Bus w ↦
       let from = held_as c.take.result c.in_ok-held.held c.args.handle.now.held _ c.take.ensures.held c.in_ok-held.was
-          (sym c.deref_mut.ensures.value ∙ w.in-Bus.is) in
+      (sym c.deref_mut.ensures.value ∙ w.in-Bus.is) in
       let after = c.of.ensures ∙ ap (λ (b : Box Held Global). Some b.value) w.held-is in
       subst (λ (a : Option BusAnswer). ActsHeld c.args.handle.now.held c.args.work.now c.of.result.held c.match-deref_mut.work a)
       (sym w.answer-is)
       (subst (λ (done : BusWork). ActsHeld c.args.handle.now.held c.args.work.now c.of.result.held done (Some w.act.new.work.answer))
       (sym w.work-is) (w.in-Bus.bus.is, w.act.new.self.is, ap bus_in from, ap bus_in after, w.act.ensures.acts, refl))
-  ]
+]
 
 pub returns-clause-same : goal.returns-clause-same
 returns-clause-same c = elim c.match-deref_mut.branch [
-    in-Profile w ↦ ap (λ (done : BusWork). done.room.ghost_name) w.work-is
+  | in-Profile w ↦ ap (λ (done : BusWork). done.room.ghost_name) w.work-is
   | in-Reader w ↦ ap (λ (done : BusWork). done.room.ghost_name) w.work-is
   | in-Bus w ↦ ap (λ (done : BusWork). done.room.ghost_name) w.work-is ∙ w.act.ensures.acts.same
-  ]
+]

@@ -45,27 +45,27 @@ pub returns-after-answer : goal.returns-after-answer
 returns-after-answer c =
     let got = c.in-Some.ensures.acts in
     let ended : MessageEnd → Message = λ end. record {
-          address = c.args.address;
-          flags = c.args.flags;
-          length = c.args.length.now;
-          end = end;
-        } in
+      address = c.args.address;
+      flags = c.args.flags;
+      length = c.args.length.now;
+      end = end;
+    } in
     let message = ended (end_of c.args.last) in
     let sends = subst (λ (asked : BusTask). ActsFor asked got.0 got.1 c.new-work.result c.act.new.work)
-        c.new-work.ensures.task got.4.acts in
+    c.new-work.ensures.task got.4.acts in
     let of_end = subst (λ (end : MessageEnd). SendsMessage (ended end) c.new-work.result.room.now c.act.new.work.room.now got.0
-        got.1 c.act.new.work.answer) c.end_of.ensures sends in
+    got.1 c.act.new.work.answer) c.end_of.ensures sends in
     let of_room = subst (λ (before : List ℕ). SendsMessage message before c.act.new.work.room.now got.0 got.1
-        c.act.new.work.answer) (ap (λ room. room.now) c.new-work.ensures.room) of_end in
+    c.act.new.work.answer) (ap (λ room. room.now) c.new-work.ensures.room) of_end in
     let answered = subst (λ (answer : BusAnswer). SendsMessage message c.args.bytes.now c.act.new.work.room.now got.0 got.1
-        answer) got.5 of_room in
+    answer) got.5 of_room in
     let name = sym (ap (λ room. room.ghost_name) c.new-work.ensures.room) ∙ sym c.act.ensures.same in
     let length_is : c.match-answer.length ≡ length_after c.in-Some.answer.status c.args.length.now c.in-Some.answer.count =
-        elim c.match-answer.branch [
-            in-Done w ↦ w.length-is ∙ sym (ap (λ (status : BusStatus). length_after status c.args.length.now c.in-Some.answer.count)
-                w.in-Done.is)
-          | in_default w ↦ w.length-is ∙ stays c.in-Some.answer.status c.args.length.now c.in-Some.answer.count w.in_default.not-Done
-          ] in
+    elim c.match-answer.branch [
+      | in-Done w ↦ w.length-is ∙ sym (ap (λ (status : BusStatus). length_after status c.args.length.now c.in-Some.answer.count)
+          w.in-Done.is)
+      | in_default w ↦ w.length-is ∙ stays c.in-Some.answer.status c.args.length.now c.in-Some.answer.count w.in_default.not-Done
+    ] in
     Sent got.0 got.1 c.in-Some.answer got.2 got.3
     (subst (λ (bytes : List ℕ). SendsMessage message c.args.bytes.now bytes got.0 got.1 c.in-Some.answer)
     (sym (grind (arith, name))) answered)

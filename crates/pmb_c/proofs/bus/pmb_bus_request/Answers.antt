@@ -9,7 +9,7 @@ use Rattle.pmb_c.proofs.bus.pmb_bus_request.Goals.{in-Some, in-None}
 
 pub returns-clause-runs : goal.returns-clause-runs
 returns-clause-runs c = elim c.match-act.branch [
-    in-Some w ↦
+  | in-Some w ↦
       let got = w.in-Some.ensures.acts in
       Ran got.0 got.1 w.in-Some.answer got.2 got.3
       (subst (λ (line : List ℕ). Requests line got.0 got.1 w.in-Some.answer) (ap (λ line. line.now) c.new-work.ensures.line)
@@ -19,4 +19,4 @@ returns-clause-runs c = elim c.match-act.branch [
       (w.told-is ∙ w.told_of_request.ensures)
   | in-None w ↦
       Closed w.in-None.ensures.acts.0 w.in-None.ensures.acts.1 (w.told-is ∙ w.of_status.ensures)
-  ]
+]

@@ -13,11 +13,11 @@ returns-in-Some c =
     let got = c.in-Some.ensures in
     let acts = got.4 in
     let does = subst (λ (t : Task). DoesFor t got.0 got.1 c.new-work.result.piece.now c.new-work.result.room.now
-        c.act.new.work.room.now acts.answer.moved) c.new-work.ensures.task acts.does in
+    c.act.new.work.room.now acts.answer.moved) c.new-work.ensures.task acts.does in
     let is = ap (λ (o : Option Answer). unwrap_or o c.in-Some.answer) (sym acts.answered ∙ got.5) in
     let answered = subst (λ (a : Answer). Takes got.0 c.new-work.result.room.now got.1 c.act.new.work.room.now a.moved) is does in
     let of_room = subst (λ (before : List ℕ). Takes got.0 before got.1 c.act.new.work.room.now c.in-Some.answer.moved)
-        (ap (λ room. room.now) c.new-work.ensures.room) answered in
+    (ap (λ room. room.now) c.new-work.ensures.room) answered in
     let ready = subst (λ (t : Task). acts.answer.ready ≡ length (ready_for t got.0 got.1)) c.new-work.ensures.task acts.ready in
     let name = sym (ap (λ room. room.ghost_name) c.new-work.ensures.room) ∙ sym acts.same in
     Taken got.0 got.1 c.in-Some.answer got.2 got.3

@@ -27,8 +27,10 @@ pub returns-in-Message : goal.returns-in-Message
 returns-in-Message c = record {
   acts = record {
     acts = subst (λ (task : BusTask). ActsFor task c.args.self.now c.answer_message.new.self c.args.work.now
-        (record c.args.work.now { room = record c.args.work.now.room { now = c.answer_message.new.room };
-        answer = c.answer_message.new.answer }))
+        (record c.args.work.now {
+          room = record c.args.work.now.room { now = c.answer_message.new.room };
+          answer = c.answer_message.new.answer;
+        }))
         (sym c.in-Message.is) c.answer_message.ensures;
     same = refl;
   };

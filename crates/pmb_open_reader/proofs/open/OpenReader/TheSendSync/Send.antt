@@ -31,7 +31,9 @@ beside d =
 
 pub send : IsSend the_row
 send = record {
-  owned = λ d vs. (λ us. (tt, (tt, (tt, (heap.send.owned d.home us.1.1.0, (heap.send.owned d.room us.1.1.1.0, tt))))),
-  beside d);
+  owned = λ d vs. (
+    λ us. (tt, (tt, (tt, (heap.send.owned d.home us.1.1.0, (heap.send.owned d.room us.1.1.1.0, tt))))),
+    beside d,
+  );
   leaving = λ k d w. tt;
 }

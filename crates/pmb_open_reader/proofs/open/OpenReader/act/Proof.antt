@@ -64,8 +64,13 @@ act_spec 𝓤 𝓛 𝓜 𝓡 wired =
     let c = f.clauses 𝓛 𝓜.mem 𝓡.returns in let W = walk_of 𝓛 f.ended stayed c in let 𝓣 = tables 𝓤 𝓛.H 𝓜 𝓡 𝓡.env in
     proved 𝓛 f.ended stayed c 𝓜 𝓡 (Goes-ref 𝓛 3 0 tt (plain (λ _. R)), (Goes-gave_ref 𝓛 3 1 tt (plain Handed), tt))
     f.Key.name code.function (code.unfolded 𝓤 𝓛.H 𝓜 𝓡 wired)
-    (λ κs. (mut_vals, (mut_vals, tt))) (λ κs. (mut_Tells (named 0) κs.0 R, (mut_Tells (named 1) κs.1.0 (Handed κs),
-    tt))) (λ κs qs bounds a _ are.
+    (λ κs. (mut_vals, (mut_vals, tt))) (λ κs. (
+      mut_Tells (named 0) κs.0 R,
+      (
+        mut_Tells (named 1) κs.1.0 (Handed κs),
+        tt,
+      ),
+    )) (λ κs qs bounds a _ are.
     let b = a.0.ref_ptr.0 in let o = a.0.ref_ptr.1 in let h = a.0.now in let vs = mut_vals a.0 in
     let ws0 = mut_vals a.1.0 in
     let y : W.Ghost = ((κs, qs, bounds, a, (vs, (ws0, tt))), tt) in
@@ -97,13 +102,29 @@ act_spec 𝓤 𝓛 𝓜 𝓡 wired =
     move ! (2 ∷ 0 ∷ []) $ use2 𝓛 (‵ (flft κ L)) (𝓛.lfts.lft_meet (β ∷ []) (α ∷ []) L) $
     -- [the token of κ; half of α's; half of β's; the seat; the right to the ground; ..]
     move ! (3 ∷ []) $
-    use1 𝓛 (later (some (λ (γ : GName). ‵ ((MutRef (named 0) κ Row).own_val (record { ref_ptr = (b', o'); ghost_name =
-    γ; now = seat_with s }) (vptr b' o' ∷ [])) ⊛ ‵ (flent κ (Body (mem Row) b' o' γ)))))
+    use1 𝓛 (later (some (λ (γ : GName). ‵ ((MutRef (named 0) κ Row).own_val (record {
+      ref_ptr = (b', o');
+      ghost_name =
+          γ;
+      now = seat_with s;
+    }) (vptr b' o' ∷ [])) ⊛ ‵ (flent κ (Body (mem Row) b' o' γ)))))
     (lends_ref 𝓛 Row (named 0) κ (seat_with s) b' o') $ await ! tt $ pick ! (λ γ. split ! $
     let r' : MutBor Seat = record { ref_ptr = (b', o'); ghost_name = γ; now = seat_with s } in
     let G = triple_of 𝓛 g.signature (g.spec 𝓛 𝓜.mem 𝓡.returns) in
-    let z : G.Ghost = (((κ, (α ∷ [], (κs.1.0, (κs.1.1.0, tt)))), (L, (Q, (qs.1.0, (qs.1.1.0, tt)))), (meet_⊑_right (β ∷
-    []) (α ∷ []), (bounds.0, tt)), (r', (a.1.0, tt)), (vptr b' o' ∷ [], (ws0, tt))), tt) in
+    let z : G.Ghost = (
+      (
+        (κ, (α ∷ [], (κs.1.0, (κs.1.1.0, tt)))),
+        (L, (Q, (qs.1.0, (qs.1.1.0, tt)))),
+        (
+          meet_⊑_right (β ∷
+              []) (α ∷ []),
+          (bounds.0, tt),
+        ),
+        (r', (a.1.0, tt)),
+        (vptr b' o' ∷ [], (ws0, tt)),
+      ),
+      tt,
+    ) in
     -- the seat's reference and the work, then the four tokens
     nothing ! $ move ! (1 ∷ 14 ∷ 0 ∷ []) $ group ! 3 $ nothing ! $ move ! (3 ∷ 4 ∷ 14 ∷ 15 ∷ 0 ∷ []) $ group ! 5 $
     join ! $

@@ -93,7 +93,9 @@ untie_spec 𝓤 𝓛 𝓜 𝓡 wired =
     use1 𝓛 (‵ ((PartsOf Row).own_val P1 (w1 ∷ []))) (id⊢ 𝓤 _) $
     peeks ! (PartsOf Row) _ (shows 𝓛 (PartsOf Row)) P1 (w1 ∷ []) (λ is1.
     sets ! (agg ! (and_then ! (get ! refl) (and_then ! (get ! refl)
-    (no_more !)))) refl (((parts_laws.the_row_laws Row (seat_laws.the_row_laws (record { mir = static; lft = α ∷ []
+    (no_more !)))) refl (((parts_laws.the_row_laws Row (seat_laws.the_row_laws (record {
+      mir = static;
+      lft = α ∷ [];
     }))).lawful 𝓛).typed P1 (w1 ∷ []) is1).0 $
     -- [the seat's parts; the ground's right to be freed; α's token; the right to the ground; true; the ground's handle]
     let G = triple_of 𝓛 g.signature (g.spec 𝓛 𝓜.mem 𝓡.returns) in
