@@ -4,7 +4,7 @@ ghost use Rattle.std.specs.Prelude.{◌≡◌, ◌≤◌, length, option_map};
 ghost use Rattle.std.specs.Option.{ForSome};
 ghost use Rattle.pmb_items.specs.Bytes.{flag, leg, or_none, padded, text};
 
-use crate::item::{NONE, ItemLeg, ItemText};
+use crate::item::{ItemLeg, ItemText, NONE};
 
 /// A number, where there is one.
 pub(crate) fn or_none(number: Option<u8>) -> u16

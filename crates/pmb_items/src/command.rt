@@ -11,7 +11,7 @@ ghost use Rattle.pmb_partial_packet.specs.Standing.{SaidStandsAt};
 ghost use Rattle.pmb_transaction.specs.Capture.{Viable};
 ghost use Rattle.pmb_items.specs.Command.{command_seen, known_command, no_command, other_command, selected, sent_command, written_command};
 
-use crate::item::{NONE, ItemCommand, UNKNOWN};
+use crate::item::{ItemCommand, NONE, UNKNOWN};
 use pmb_command_data::has_phases;
 use pmb_json_objects::Seen;
 use pmb_keys::Command;

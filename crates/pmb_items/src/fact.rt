@@ -15,7 +15,7 @@ ghost use Rattle.pmb_items.specs.Item.{alert_item, bad_token_item, bare, call_it
 
 use crate::bytes::{leg, or_none, text};
 use crate::command::{command_seen, no_command, sent_command, written_command};
-use crate::item::{ItemHead, Item, ItemPart};
+use crate::item::{Item, ItemHead, ItemPart};
 use crate::number::{no_number, number_at};
 use crate::pec::{no_pec, packet_pec, refusal_pec, refused_pec};
 use crate::refusal::{no_refusal, refusal_of};
@@ -91,14 +91,7 @@ fn write_item(seen: &Seen<'_>, head: Head<'_>, part: u64, parts: u64, written: &
 }
 
 /// The item of a read.
-fn read_item(
-    seen: &Seen<'_>,
-    head: Head<'_>,
-    addr: u8,
-    code: u8,
-    reply: &[u8],
-    pec: bool,
-) -> Item
+fn read_item(seen: &Seen<'_>, head: Head<'_>, addr: u8, code: u8, reply: &[u8], pec: bool) -> Item
     requires { length reply.now ≤ 255 }
     ensures { (known : SeenData) → Sees seen.now known
         → result ≡ read_item known (head_of head.entry) (record { addr = addr; code = code; reply = reply.now; pec = pec }) }

@@ -48,7 +48,13 @@ fn number_seen(
         vid: device.vid(),
     };
     let assumed = assumed_at(seen, addr);
-    number_of(&voltages, assumed, command.entry.code, command.entry.kind, bytes)
+    number_of(
+        &voltages,
+        assumed,
+        command.entry.code,
+        command.entry.kind,
+        bytes,
+    )
 }
 
 /// Whether the VOUT_MODE of a device is assumed.

@@ -9,7 +9,7 @@ ghost use Rattle.pmb_partial_packet.specs.Standing.{SaidStandsAt};
 ghost use Rattle.pmb_items.specs.Pec.{checked_last, checked_pec, no_pec, packet_pec, refusal_pec, refused_pec};
 
 use crate::bytes::{flag, or_none};
-use crate::item::{NONE, ItemPec};
+use crate::item::{ItemPec, NONE};
 use pmb_bus::Event;
 use pmb_json_objects::Seen;
 use pmb_log_data::{but_last, is_whole_write, last_byte, leg_code};
@@ -53,12 +53,7 @@ pub(crate) fn refused_pec(seen: &Seen<'_>, addr: u8, sent: &[u8], at_read: bool)
 }
 
 /// Whether the last byte of a leg is the one of the write before it.
-fn checked_last(
-    addr: u8,
-    device: Option<&DeviceProfile>,
-    front: &[u8],
-    last: Option<u8>,
-) -> ItemPec
+fn checked_last(addr: u8, device: Option<&DeviceProfile>, front: &[u8], last: Option<u8>) -> ItemPec
     ensures { result ≡ checked_last addr (option_map (λ d. d.now) device.entry) front.now last }
 {
     match last {
