@@ -1,0 +1,5 @@
+mod Alike
+mod Buses
+mod Devices
+mod OneAnswer
+mod OneEnd
