@@ -13,6 +13,7 @@ import sys
 from typing import IO, AsyncIterator, Dict, Iterator, List, Optional, Union
 
 import pmb
+import pmb.cluster
 from pmb.objects import BadToken, Device, End, Object, Read, Write
 
 
@@ -155,6 +156,13 @@ def buses(profile: pmb.Profile, file: IO[str]) -> None:
     page: Optional[int] = device.page
     names: List[str] = list(device)
     print(status, page, names)
+
+
+def cluster(words: List[str]) -> int:
+    status: int = pmb.cluster.main(["check", *words])
+    pmb.cluster.main(5)  # type: ignore[arg-type]
+    pmb.cluster.mian(words)  # type: ignore[attr-defined]
+    return status
 
 
 def made() -> Write:

@@ -18,6 +18,8 @@ Name: pmb
 Version: {}
 Summary: The proved PMBus codec: numbers, packets, captures and simulated devices
 Requires-Python: >=3.8
+Provides-Extra: cluster
+Requires-Dist: distributed; extra == "cluster"
 """.format(VERSION)
 # What the library needs is in glibc 2.17 and in musl.
 SYSTEMS = ("manylinux_2_17_x86_64", "manylinux2014_x86_64", "musllinux_1_1_x86_64")
