@@ -380,6 +380,38 @@ static int as_run(void)
     return 0;
 }
 
+/* The longest request: a group of 16 blocks of 255 bytes, each with a packet error code. On the wire each
+ * part has START, the address, the code, the count, its bytes and the packet error code, and each of these
+ * 259 bytes has ACK: 2 + 259 * 5 characters. */
+static int longest(void)
+{
+    static char devices[1024], line[16384], out[1 << 15];
+    const size_t all = 16 * (2 + 259 * 5) + 2 + 7;
+    pmb_profile profile = {0};
+    pmb_bus bus = {0};
+    pmb_result told;
+    size_t size = 0, used = 0;
+    int i, k;
+    for (i = 0; i < 16; i++) {
+        size += (size_t)sprintf(devices + size, "[[device]]\naddress = %d\npec = \"on\"\n", 16 + i);
+        used += (size_t)sprintf(line + used, "%s %02x 99", i > 0 ? " +" : "write", 16u + (unsigned)i);
+        for (k = 0; k < 255; k++) used += (size_t)sprintf(line + used, " 41");
+        used += (size_t)sprintf(line + used, " pec");
+    }
+    EXPECT(pmb_profile_open(&profile, devices, size, &told) == PMB_OK);
+    EXPECT(pmb_bus_open(&bus, &profile) == PMB_OK);
+    pmb_profile_close(&profile);
+    for (i = 0; i < 3; i++) {
+        EXPECT(pmb_bus_request(&bus, line, used, &told) == PMB_OK);
+        EXPECT(told.packets == 1 && told.refusals == 0);
+        EXPECT(pmb_bus_events(&bus, out, sizeof out, &told) == all && told.status == PMB_OK);
+        EXPECT(memcmp(out, "S 20 A 99 A ff A 41 A 41 A ", 27) == 0);
+        EXPECT(memcmp(out + all - 9, "P\n# done\n", 9) == 0);
+    }
+    pmb_bus_close(&bus);
+    return 0;
+}
+
 /* ---- what was logged, in pieces */
 
 static int pieces(void)
@@ -592,8 +624,8 @@ static int threads(void)
 
 int main(void)
 {
-    if (messages() || unsent() || transfers() || requests() || as_run() || pieces() || closed() ||
-        threads())
+    if (messages() || unsent() || transfers() || requests() || as_run() || longest() || pieces() ||
+        closed() || threads())
         return 1;
 #ifdef REFUSES
     if (refusals()) return 1;

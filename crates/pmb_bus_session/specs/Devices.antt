@@ -2,12 +2,14 @@
 --
 -- What a message does is stated by the layers below: its signals and answers by `Sends` of pmb_message, over
 -- `IsMessage` of pmb_i2c; what its events read as by `Reading` of pmb_transaction.
-use Rattle.std.specs.Prelude.{◌≡◌, Bool, true, false, Result, Ok, Err, ℕ, List, [], ◌++◌}
+use Rattle.std.specs.Prelude.{◌≡◌, Bool, true, false, Result, Ok, Err, ℕ, List, [], ◌++◌, map}
 use Rattle.pmb_bus.specs.declared.event.Event.{Event}
 use Rattle.pmb_command.specs.Parts.{DeviceParts}
 use Rattle.pmb_devices.specs.declared.bus.Bus.{Bus}
+use Rattle.pmb_devices.specs.Signal.{BusStanding, BusStandsAt}
 use Rattle.pmb_i2c.specs.declared.message.MessageEnd.{MessageEnd}
 use Rattle.pmb_i2c.specs.declared.message.MessageEnd.TheVariants as ends
+use Rattle.pmb_i2c.specs.Signals.{IsStopped}
 use Rattle.pmb_message.specs.declared.message.Message.{Message}
 use Rattle.pmb_message.specs.declared.message.SendFault.{SendFault}
 use Rattle.pmb_message.specs.declared.message.SendFault.TheVariants.{NoDevice, Refused, BadCount, BadAddress, BadLength, BadFlags}
@@ -20,6 +22,10 @@ use Rattle.pmb_bus_session.specs.declared.devices.Devices.{Devices}
 -- the bus of the devices
 abbrev pub devices_bus : Devices → Bus
 devices_bus devices = devices.runner.bench.bus
+
+-- the text of the last request
+abbrev pub request_text : Devices → List ℕ
+request_text devices = devices.waiting.value.items
 
 -- Whether a transfer is under way after a message, by its end and what came of it: a message that failed ends
 -- with STOP, unless nothing was sent.
@@ -41,7 +47,8 @@ pub record OpensFresh (profile : List DeviceParts) (devices : Devices) : Type 0 
   pub lines : devices.runner.lines ≡ 0
   pub ended : devices.is_under_way ≡ false
 
--- A message was sent, or was not: what it did to the bus; and its events were read after those before them.
+-- A message was sent, or was not: what it did to the bus; and its events were read after those before them. Where no
+-- transfer is under way after it, the same devices are on the bus, and it stands between two.
 pub record DevicesSend (message : Message) (before after : List ℕ) (old new : Devices) (result : Result ℕ SendFault) : Type
     0 where
   pub sends : Sends message before after (devices_bus old) (devices_bus new) new.tape result
@@ -49,5 +56,8 @@ pub record DevicesSend (message : Message) (before after : List ℕ) (old new : 
   pub reads : (events : List Event) (outcomes : List Outcome) → ReadsAs old.runner.bench events outcomes
       → (more : List Outcome) × ReadsAs new.runner.bench (events ++ new.tape) (outcomes ++ more)
   pub lines : new.runner.lines ≡ old.runner.lines
-  pub waiting : new.waiting.items ≡ old.waiting.items
+  pub waiting : request_text new ≡ request_text old
   pub under_way : new.is_under_way ≡ under_way_after old.is_under_way message.end result
+  pub stopped : (standing : BusStanding) → BusStandsAt (devices_bus old) standing
+      → (old.is_under_way ≡ false → standing.history ≡ []) → new.is_under_way ≡ false
+      → IsStopped (map (λ member. member.device) standing.members) (devices_bus new)

@@ -47,21 +47,39 @@ pub record StandsFresh (ground : BusGround) (session : BusSession) : Type 0 wher
   pub no_devices : session_devices session ≡ None
   pub no_text : session_log session ≡ []
 
--- a call that leaves devices and text as they are
+-- a call that leaves all as it is
 pub record StaysSo (old new : BusSession) : Type 0 where
+  pub profile : session_profile new ≡ session_profile old
   pub devices : session_devices new ≡ session_devices old
   pub text : session_log new ≡ session_log old
+
+-- ---- answers
+
+abbrev pub none_counted : Tally
+none_counted = record { packets = 0; refusals = 0 }
+
+-- a status alone: no bytes, and nothing is counted
+abbrev pub plain : BusStatus → BusAnswer
+plain status = record { status = status; count = 0; ready = 0; tally = none_counted }
+
+-- it was done, with so many bytes
+abbrev pub counted : ℕ → BusAnswer
+counted count = record (plain Done) { count = count }
+
+-- a request was run, with these counts
+abbrev pub done_with : Tally → BusAnswer
+done_with tally = record (plain Done) { tally = tally }
 
 -- ---- open
 
 -- The devices are made, each in its first state, where there are none; or memory was refused.
 pub data Opens (old new : BusSession) (answer : BusAnswer) : Type 0 where
-  there : (devices : Devices) → session_devices old ≡ Some devices → StaysSo old new → answer.status ≡ Done
+  there : (devices : Devices) → session_devices old ≡ Some devices → StaysSo old new → answer ≡ plain Done
       → Opens old new answer
   made : (devices : Devices) → session_devices old ≡ None → session_devices new ≡ Some devices
-      → OpensFresh (session_profile old) devices
-      → session_log new ≡ session_log old → answer.status ≡ Done → Opens old new answer
-  no_memory : session_devices old ≡ None → StaysSo old new → answer.status ≡ Memory → Opens old new answer
+      → OpensFresh (session_profile old) devices → session_profile new ≡ session_profile old
+      → session_log new ≡ session_log old → answer ≡ plain Done → Opens old new answer
+  no_memory : session_devices old ≡ None → StaysSo old new → answer ≡ plain Memory → Opens old new answer
 
 -- ---- a message
 
@@ -73,19 +91,21 @@ status_of fault.BadAddress = BadAddress
 status_of fault.BadLength = BadLength
 status_of fault.BadFlags = BadFlags
 
-abbrev pub AnswersSend : Result ℕ SendFault → BusAnswer → Type 0
-AnswersSend (Ok count) answer = (answer.status ≡ Done) × (answer.count ≡ count)
-AnswersSend (Err why) answer = (answer.status ≡ status_of why) × (answer.count ≡ 0)
+abbrev pub answer_of : Result ℕ SendFault → BusAnswer
+answer_of (Ok count) = counted count
+answer_of (Err why) = plain (status_of why)
 
--- There are no devices, or no memory for its text, and nothing was sent; or it did to the devices what
+-- There are no devices, or there is no memory for its text, and nothing was sent; or it did to the devices what
 -- `DevicesSend` says, and the canonical text of its events comes after the text that was there.
 pub data SendsMessage (message : Message) (before after : List ℕ) (old new : BusSession) (answer : BusAnswer) : Type 0 where
-  closed : session_devices old ≡ None → StaysSo old new → after ≡ before → answer.status ≡ Closed
+  closed : session_devices old ≡ None → StaysSo old new → after ≡ before → answer ≡ plain Closed
       → SendsMessage message before after old new answer
-  no_memory : StaysSo old new → after ≡ before → answer.status ≡ Memory → SendsMessage message before after old new answer
+  no_memory : (devices : Devices) → session_devices old ≡ Some devices → StaysSo old new → after ≡ before
+      → answer ≡ plain Memory → SendsMessage message before after old new answer
   sent : (was now : Devices) (result : Result ℕ SendFault) → session_devices old ≡ Some was
       → session_devices new ≡ Some now → DevicesSend message before after was now result
-      → session_log new ≡ session_log old ++ canonical_text now.tape → AnswersSend result answer
+      → session_profile new ≡ session_profile old → session_log new ≡ session_log old ++ canonical_text now.tape
+      → answer ≡ answer_of result
       → SendsMessage message before after old new answer
 
 -- ---- text that is taken
@@ -97,7 +117,9 @@ pub record MovesText (before after : List ℕ) (old new : BusSession) (answer : 
   pub as_many : answer.count ≡ min (length (session_log old)) (length before)
   pub room : after ≡ take answer.count (session_log old) ++ drop answer.count before
   pub left : session_log new ≡ drop answer.count (session_log old)
+  pub uncounted : answer.tally ≡ none_counted
   pub devices : session_devices new ≡ session_devices old
+  pub profile : session_profile new ≡ session_profile old
 
 -- ---- a request
 
@@ -114,7 +136,8 @@ pub record Ran (line : List ℕ) (members : List InState) (ts : List Transaction
   pub answers : RunsLineWith (bench_profile was.runner.bench) ts members said told
   pub text : log_new ≡ log_old ++ answer_text now.runner.lines told
   pub lines : now.runner.lines ≡ capped (was.runner.lines + 1)
-  pub counted : tally ≡ counted_in told (record { packets = 0; refusals = 0 })
+  pub tally_is : tally ≡ counted_in told none_counted
+  pub profile_is : bench_profile now.runner.bench ≡ bench_profile was.runner.bench
   pub stands : BenchStands now.runner.bench (all_after (recorded_by told) members) (ts ++ recorded_by told)
 
 -- The request of a line was run: wherever the devices stood between packets, it has the answer of `run` on them,
@@ -125,16 +148,20 @@ RunsLine line was now log_old log_new tally =
     → Ran line members ts was now log_old log_new tally
 
 -- There are no devices; a transfer is under way; there is no memory for its text, and nothing was sent; or it was
--- run. Room for the longest text is made before. Should memory be refused nevertheless, the devices are gone.
+-- run, and no transfer is under way after it. There is room for the longest text, 32,768 bytes. Should one be longer
+-- nevertheless, the devices are gone.
 pub data Requests (line : List ℕ) (old new : BusSession) (answer : BusAnswer) : Type 0 where
-  closed : session_devices old ≡ None → StaysSo old new → answer.status ≡ Closed → Requests line old new answer
+  closed : session_devices old ≡ None → StaysSo old new → answer ≡ plain Closed → Requests line old new answer
   busy : (devices : Devices) → session_devices old ≡ Some devices
       → IsUnderWay devices ⊎ ((standing : Standing)
       → ReaderStandsAt (bench_profile devices.runner.bench) devices.runner.bench.reader standing → ¬ (IsBetween standing))
-      → StaysSo old new → answer.status ≡ Busy → Requests line old new answer
-  no_memory : StaysSo old new → answer.status ≡ Memory → Requests line old new answer
-  gone : session_devices new ≡ None → answer.status ≡ Memory → Requests line old new answer
+      → StaysSo old new → answer ≡ plain Busy → Requests line old new answer
+  no_memory : (devices : Devices) → session_devices old ≡ Some devices → devices.is_under_way ≡ false → StaysSo old new
+      → answer ≡ plain Memory → Requests line old new answer
+  gone : (was : Devices) → session_devices old ≡ Some was → was.is_under_way ≡ false → session_devices new ≡ None
+      → session_profile new ≡ session_profile old → session_log new ≡ session_log old → answer ≡ plain Memory
+      → Requests line old new answer
   run : (was now : Devices) → session_devices old ≡ Some was → session_devices new ≡ Some now
-      → was.is_under_way ≡ false
-      → RunsLine line was now (session_log old) (session_log new) answer.tally → answer.status ≡ Done
+      → was.is_under_way ≡ false → now.is_under_way ≡ false → session_profile new ≡ session_profile old
+      → RunsLine line was now (session_log old) (session_log new) answer.tally → answer ≡ done_with answer.tally
       → Requests line old new answer

@@ -2,15 +2,15 @@
 //!
 //! Its rows: `tests_host`, `src/session.rt`.
 
-ghost use Rattle.std.specs.Prelude.{◌≡◌, ◌⊎◌, false, IfSome, IsFalse, IsTrue, IfOk};
+ghost use Rattle.std.specs.Prelude.{◌≡◌, ◌≤◌, ◌⊎◌, [], false, length, IfSome, IsFalse, IsTrue, IfOk};
 ghost use Rattle.pmb_reader.specs.Reader.{IsBetween, ReaderStandsAt, Standing};
 ghost use Rattle.pmb_run.specs.machine.Bench.{bench_profile};
-ghost use Rattle.pmb_bus_session.specs.Devices.{DevicesSend, OpensFresh, under_way_after};
+ghost use Rattle.pmb_bus_session.specs.Devices.{DevicesSend, OpensFresh, request_text, under_way_after};
 ghost use Rattle.pmb_bus_session.specs.Session.{IsUnderWay, RunsLine};
 
-use crate::log::Log;
+use crate::nowhere::Nowhere;
 use pmb_devices::Bus;
-use pmb_io::{RunFault, Tally, Waiting, send as send_out};
+use pmb_io::{RunFault, Tally, Waiting};
 use pmb_message::{Message, MessageEnd, SendFault, Tape, send};
 use pmb_run::{Bench, Runner};
 use pmb_table::Profile;
@@ -22,17 +22,32 @@ pub(crate) struct Devices<'p> {
     pub(crate) runner: Runner<'p>,
     /// The events of the last message.
     pub(crate) tape: Tape,
-    /// Text of a request on its way to the log.
-    pub(crate) waiting: Waiting,
+    /// The text of the last request.
+    pub(crate) waiting: Box<Waiting>,
     /// Whether the last message that was sent had no STOP after it.
     pub(crate) is_under_way: bool,
 }
 
 impl<'p> Devices<'p> {
     /// Devices in their first states, on the heap; nothing where there is no memory for all that they
-    /// will ever need. It is never inlined, so that what it is made of is off the stack when it is used.
-    #[inline(never)]
+    /// will ever need.
     pub(crate) fn boxed(alloc: Global, profile: &'p Profile) -> Option<Box<Devices<'p>>>
+        ensures { IfSome result (λ devices. OpensFresh profile.now devices.value) }
+    {
+        let Some(waiting) = none_waiting(alloc) else {
+            return None;
+        };
+        Devices::around(alloc, profile, waiting)
+    }
+
+    /// Such devices around room for a text. It is never inlined, so that what they are made of is off the
+    /// stack when they are used.
+    #[inline(never)]
+    fn around(
+        alloc: Global,
+        profile: &'p Profile,
+        waiting: Box<Waiting>,
+    ) -> Option<Box<Devices<'p>>>
         ensures { IfSome result (λ devices. OpensFresh profile.now devices.value) }
     {
         let Ok(bus) = Bus::new(alloc, profile) else {
@@ -48,7 +63,7 @@ impl<'p> Devices<'p> {
                 tally: Tally::new(),
             },
             tape,
-            waiting: Waiting::new(),
+            waiting,
             is_under_way: false,
         };
         match Box::new(alloc, devices) {
@@ -76,19 +91,38 @@ impl<'p> Devices<'p> {
         self.is_under_way || !self.runner.bench.is_between()
     }
 
-    /// Runs the request of a line, and puts what `run` writes of it into the log.
+    /// Runs the request of a line. What `run` writes of it waits then.
     ///
     /// # Errors
     ///
-    /// There was no memory for the text.
-    pub(crate) fn request(&mut self, line: &[u8], log: &mut Log) -> Result<Tally, RunFault>
-        ensures { IfOk result (RunsLine line.now self.old self.new log.old.left log.new.left) }
+    /// There is no room for the text.
+    pub(crate) fn request(&mut self, line: &[u8]) -> Result<Tally, RunFault>
+        ensures runs { IfOk result (RunsLine line.now self.old self.new [] (request_text self.new)) }
+        ensures under_way { self.new.is_under_way ≡ self.old.is_under_way }
     {
-        self.waiting.clear();
+        let waiting = &mut *self.waiting;
+        waiting.clear();
         self.runner.tally = Tally::new();
-        self.runner.take_next(line, &mut self.waiting, log)?;
-        send_out(&mut self.waiting, log)?;
+        self.runner.take_next(line, waiting, &mut Nowhere::new())?;
         Ok(self.runner.tally)
+    }
+
+    /// The text of the last request.
+    pub(crate) fn text(&self) -> &[u8]
+        ensures all { result.now ≡ request_text self.now }
+        ensures few { length result.now ≤ 32768 }
+    {
+        self.waiting.as_slice()
+    }
+}
+
+/// Room in which no text waits. It is never inlined, so that what it is made of is off the stack when
+/// the devices are made.
+#[inline(never)]
+fn none_waiting(alloc: Global) -> Option<Box<Waiting>> {
+    match Box::new(alloc, Waiting::new()) {
+        Ok(waiting) => Some(waiting),
+        Err(_) => None,
     }
 }
 

@@ -23,6 +23,7 @@
 
 mod devices;
 mod log;
+mod nowhere;
 mod session;
 mod work;
 

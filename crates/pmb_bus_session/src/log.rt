@@ -6,7 +6,6 @@ ghost use Rattle.std.specs.Prelude.{◌≡◌, ◌+◌, ◌*◌, ◌≤◌, ◌+
 ghost use Rattle.pmb_bus.specs.Event.{canonical_text, text_of};
 
 use pmb_bus::{Event, event_text};
-use pmb_io::{IoFault, Sink};
 use std::alloc::{AllocError, Global};
 use std::marker::Model;
 
@@ -16,8 +15,6 @@ pub(crate) struct Log {
     text: Vec<u8>,
     /// How much of it was taken.
     taken: usize,
-    /// How often memory was refused; stays at the greatest `u64`.
-    failures: u64,
 }
 
 impl Model for Log {
@@ -26,7 +23,7 @@ impl Model for Log {
 
     ghost Value = { LogData };
 
-    ghost view = { λ log. record { left = drop log.taken log.text.items; room = vec_capacity log.text - vec_len log.text; failures = log.failures } };
+    ghost view = { λ log. record { left = drop log.taken log.text.items; room = vec_capacity log.text - vec_len log.text } };
 
     ghost invariant = { λ log. log.taken ≤ length log.text.items };
 }
@@ -39,7 +36,6 @@ impl Log {
         Log {
             text: Vec::new(alloc),
             taken: 0,
-            failures: 0,
         }
     }
 
@@ -58,7 +54,6 @@ impl Log {
     pub(crate) fn reserve(&mut self, more: usize) -> Result<(), AllocError>
         ensures room { OnOk result (more ≤ self.new.room) }
         ensures left { self.new.left ≡ self.old.left }
-        ensures failures { self.new.failures ≡ self.old.failures }
     {
         self.drop_taken();
         self.text.reserve(more)
@@ -67,8 +62,7 @@ impl Log {
     /// Moves the text that is left to the front, where at least as much was taken: so each byte is moved
     /// once for one that was taken.
     fn drop_taken(&mut self)
-        ensures left { self.new.left ≡ self.old.left }
-        ensures failures { self.new.failures ≡ self.old.failures }
+        ensures { self.new.left ≡ self.old.left }
     {
         let all = self.text.len();
         let left = all - self.taken;
@@ -83,8 +77,7 @@ impl Log {
     /// Puts the text of events after what is left. There has to be room for it, three bytes an event.
     pub(crate) fn push_events(&mut self, events: &[Event])
         requires { 3 * length events.now ≤ self.old.room }
-        ensures left { self.new.left ≡ self.old.left ++ canonical_text events.now }
-        ensures failures { self.new.failures ≡ self.old.failures }
+        ensures { self.new.left ≡ self.old.left ++ canonical_text events.now }
     {
         for event in events {
             self.push_event(*event);
@@ -96,9 +89,16 @@ impl Log {
         requires { 3 ≤ self.old.room }
         ensures left { self.new.left ≡ self.old.left ++ text_of event }
         ensures room { self.old.room ≤ self.new.room + 3 }
-        ensures failures { self.new.failures ≡ self.old.failures }
     {
         let _ = self.text.extend_from_slice(event_text(event).as_bytes());
+    }
+
+    /// Puts text after what is left. There has to be room for it.
+    pub(crate) fn push_text(&mut self, text: &[u8])
+        requires { length text.now ≤ self.old.room }
+        ensures { self.new.left ≡ self.old.left ++ text.now }
+    {
+        let _ = self.text.extend_from_slice(text);
     }
 
     /// Moves the oldest text to the front of a room, as far as it fits, and returns how many bytes.
@@ -106,7 +106,6 @@ impl Log {
         ensures count { result ≡ min (length self.old.left) (length room.old) }
         ensures room { room.new ≡ take result self.old.left ++ drop result room.old }
         ensures left { self.new.left ≡ drop result self.old.left }
-        ensures failures { self.new.failures ≡ self.old.failures }
     {
         let left = self.text.len() - self.taken;
         let count = left.min(room.len());
@@ -114,21 +113,5 @@ impl Log {
         room[..count].copy_from_slice(&self.text[self.taken..end]);
         self.taken = end;
         count
-    }
-}
-
-impl Sink for Log {
-    ghost use Rattle.std.specs.Prelude.{Some};
-
-    ghost told = { λ log. record { held = Some log.left; failures = log.failures } };
-
-    fn write_all(&mut self, bytes: &[u8]) -> Result<(), IoFault> {
-        match self.text.extend_from_slice(bytes) {
-            Ok(()) => Ok(()),
-            Err(_) => {
-                self.failures = self.failures.saturating_add(1);
-                Err(IoFault)
-            }
-        }
     }
 }

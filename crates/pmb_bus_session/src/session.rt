@@ -3,9 +3,8 @@
 //! Its rows: `tests_host`, `src/session.rt`.
 
 ghost use Rattle.std.specs.Prelude.{◌≡◌};
-ghost use Rattle.pmb_bus_session.specs.Session.{AnswersSend, MovesText, Opens, Requests, SendsMessage, StandsFresh, status_of};
+ghost use Rattle.pmb_bus_session.specs.Session.{MovesText, Opens, Requests, SendsMessage, StandsFresh, answer_of, counted, done_with, plain, status_of};
 ghost use Rattle.pmb_bus_session.specs.Work.{Acts};
-ghost use Rattle.pmb_bus_session.specs.declared.work.BusStatus.TheVariants as status;
 
 use crate::devices::Devices;
 use crate::log::Log;
@@ -16,9 +15,9 @@ use pmb_table::{BusProfile, Profile};
 use std::alloc::Global;
 use std::sync::Arc;
 
-/// The most bytes that are put into the log for a request: three for each of two events of 4,161 signals,
-/// and the line of its result.
-const MOST_REQUEST_TEXT: usize = 25734;
+/// The most bytes that are put into the log for a request: as many as wait. Its text has at most 25,734, three for
+/// each of two events of 4,161 signals and the line of its result.
+const MOST_REQUEST_TEXT: usize = 32768;
 
 /// The most bytes that are put into the log for a message: three for each of its events.
 const MOST_MESSAGE_TEXT: usize = 49164;
@@ -82,7 +81,9 @@ impl<'p> BusSession<'p> {
         }
     }
 
-    /// Sends a message, once there is room in the log for its text.
+    /// Sends a message, once there is room in the log for its text. It is never inlined, nor is what runs a
+    /// request, so that making the devices takes less stack.
+    #[inline(never)]
     fn answer_message(&mut self, message: Message, room: &mut [u8], answer: &mut BusAnswer)
         ensures { SendsMessage message room.old room.new self.old self.new answer.new }
     {
@@ -101,6 +102,7 @@ impl<'p> BusSession<'p> {
     }
 
     /// Runs the request of a line, between transfers.
+    #[inline(never)]
     fn answer_request(&mut self, line: &[u8], answer: &mut BusAnswer)
         ensures { Requests line.now self.old self.new answer.new }
     {
@@ -116,14 +118,11 @@ impl<'p> BusSession<'p> {
             *answer = plain(BusStatus::Memory);
             return;
         }
-        match devices.request(line, &mut self.log) {
+        let devices: &mut Devices<'p> = devices;
+        match devices.request(line) {
             Ok(tally) => {
-                *answer = BusAnswer {
-                    status: BusStatus::Done,
-                    count: 0,
-                    ready: 0,
-                    tally,
-                };
+                self.log.push_text(devices.text());
+                *answer = done_with(tally);
             }
             Err(_) => {
                 self.devices = None;
@@ -149,7 +148,7 @@ impl<'p> BusSession<'p> {
 
 /// A status alone.
 fn plain(status: BusStatus) -> BusAnswer
-    ensures { (result.status ≡ status) × (result.count ≡ 0) }
+    ensures { result ≡ plain status }
 {
     BusAnswer {
         status,
@@ -161,13 +160,25 @@ fn plain(status: BusStatus) -> BusAnswer
 
 /// It is done, with so many bytes.
 fn counted(count: usize) -> BusAnswer
-    ensures { (result.status ≡ status.Done) × (result.count ≡ count) }
+    ensures { result ≡ counted count }
 {
     BusAnswer {
         status: BusStatus::Done,
         count,
         ready: 0,
         tally: Tally::new(),
+    }
+}
+
+/// A request was run, with these counts.
+fn done_with(tally: Tally) -> BusAnswer
+    ensures { result ≡ done_with tally }
+{
+    BusAnswer {
+        status: BusStatus::Done,
+        count: 0,
+        ready: 0,
+        tally,
     }
 }
 
@@ -186,7 +197,7 @@ fn status_of(fault: SendFault) -> BusStatus
 
 /// What came of a message.
 fn answer_of(sent: Result<usize, SendFault>) -> BusAnswer
-    ensures { AnswersSend sent result }
+    ensures { result ≡ answer_of sent }
 {
     match sent {
         Ok(count) => counted(count),

@@ -57,6 +57,12 @@ pub data Reads (bytes : List ℕ) (heard : List AnsweredSignal) : Type 0 where
   some : (front : List ℕ) (last : ℕ) (before final : List AnsweredSignal) → bytes ≡ front ++ last ∷ []
       → ReadsOn front before → ReadsByte Nack last final → heard ≡ before ++ final → Reads bytes heard
 
+-- They are read, and no device can refuse one.
+pub record ReadsAll (bytes : List ℕ) (outcome : Result (Unit {0}) MessageFault) (heard : List AnsweredSignal) : Type
+    0 where
+  pub done : outcome ≡ Ok tt
+  pub reads : Reads bytes heard
+
 -- A count is read, then as many bytes, and `more` after them, as with Linux's I2C_M_RECV_LEN. A count
 -- outside 1 to 32 (its I2C_SMBUS_BLOCK_MAX, as in SMBus 2.0; SMBus 3.0 section 6.5.7 has blocks of up to
 -- 255 bytes) has NACK, and no byte follows it.

@@ -1,6 +1,7 @@
 -- Signals that a bus of simulated devices was given, one after the other.
-use Rattle.std.specs.Prelude.{List, [], ◌∷◌, ◌++◌}
+use Rattle.std.specs.Prelude.{◌≡◌, List, [], ◌∷◌, ◌++◌, map}
 use Rattle.pmb_bus.specs.declared.event.Event.{Event}
+use Rattle.pmb_command.specs.Parts.{DeviceParts}
 use Rattle.pmb_devices.specs.declared.bus.Bus.{Bus}
 use Rattle.pmb_devices.specs.Bus.{AnsweredSignal}
 use Rattle.pmb_devices.specs.Signal.{BusStanding, BusStandsAt, BusTakes}
@@ -13,6 +14,13 @@ TakesInTurn standing [] new = BusStandsAt new standing
 TakesInTurn standing (one ∷ more) new =
     (middle : Bus) × BusTakes standing one.signal one.result middle
     × ((next : BusStanding) → BusStandsAt middle next → TakesInTurn next more new)
+
+-- A bus of these devices stands between two transfers: the last signal that it was given, if any, is STOP.
+pub record IsStopped (devices : List DeviceParts) (bus : Bus) : Type 0 where
+  pub standing : BusStanding
+  pub devices_are : map (λ member. member.device) standing.members ≡ devices
+  pub stands : BusStandsAt bus standing
+  pub none : standing.history ≡ []
 
 -- A bus was given such signals, and had these answers: wherever it stood, it took them in turn, and a
 -- listener heard what is on the wire of them, in order.

@@ -8,7 +8,7 @@
 ghost use Rattle.std.specs.Prelude.{◌≡◌, ◌+◌, ◌≤◌, IfOk, OnErr, length, drop};
 ghost use Rattle.pmb_bus.specs.Address.{read_address, write_address};
 ghost use Rattle.pmb_i2c.specs.Signals.{Gives};
-ghost use Rattle.pmb_i2c.specs.Message.{IsMessage, Reads, ReadsCounted, Writes};
+ghost use Rattle.pmb_i2c.specs.Message.{IsMessage, ReadsAll, ReadsCounted, Writes};
 
 use crate::listener::Listener;
 use crate::signals::{begin, byte_of, finish, give, read_bytes, write_bytes};
@@ -78,7 +78,7 @@ pub fn read<L: Listener>(
     end: MessageEnd,
     log: &mut L,
 ) -> Result<(), MessageFault>
-    ensures signals { Gives (IsMessage address (read_address address) (Reads bytes.new) end result) bus.old bus.new (L.HasHeard log.old) (L.HasHeard log.new) }
+    ensures signals { Gives (IsMessage address (read_address address) (ReadsAll bytes.new result) end result) bus.old bus.new (L.HasHeard log.old) (L.HasHeard log.new) }
     ensures untouched { OnErr result (bytes.new ≡ bytes.old) }
 {
     if address > 0x7f {

@@ -7,7 +7,7 @@ use Rattle.pmb_devices.specs.Bus.{AnsweredSignal}
 use Rattle.pmb_devices.specs.Signal.{BusStanding, BusStandsAt}
 use Rattle.pmb_i2c.specs.declared.message.MessageFault.{MessageFault}
 use Rattle.pmb_i2c.specs.declared.message.MessageFault.TheVariants as i2c
-use Rattle.pmb_i2c.specs.Message.{IsMessage, Reads, ReadsCounted, Writes}
+use Rattle.pmb_i2c.specs.Message.{IsMessage, ReadsAll, ReadsCounted, Writes}
 use Rattle.pmb_i2c.specs.Signals.{TakesInTurn}
 use Rattle.pmb_i2c.specs.Wire.{wire_events}
 use Rattle.pmb_message.specs.declared.message.Message.{Message}
@@ -75,6 +75,12 @@ abbrev pub block_as : Result ℕ MessageFault → Result ℕ SendFault
 block_as (Ok count) = Ok count
 block_as (Err fault) = Err (fault_as fault)
 
+-- What stays of the room where something was read into it: what comes after the bytes that came. After a fault all of
+-- it stays.
+abbrev pub RestStays : Result ℕ SendFault → List ℕ → List ℕ → Type 0
+RestStays (Ok count) before after = drop count after ≡ drop count before
+RestStays (Err why) before after = after ≡ before
+
 -- A bus was given such signals: wherever it stood, it took them in turn; and these events were on the wire.
 pub record Sent (Such : List AnsweredSignal → Type 0) (old new : Bus) (events : List Event) : Type 0 where
   pub heard : List AnsweredSignal
@@ -82,23 +88,24 @@ pub record Sent (Such : List AnsweredSignal → Type 0) (old new : Bus) (events 
   pub takes : (standing : BusStanding) → BusStandsAt old standing → TakesInTurn standing heard new
   pub events_are : events ≡ wire_events heard
 
--- Nothing was sent, for this reason; or the bytes at the front of the room were written, or read into it,
--- with the signals of a message.
+-- Nothing was sent, for this reason. Or the message fits, and the bytes at the front of the room were written, or
+-- read into it, with the signals of a message.
 pub data Sends (message : Message) (before after : List ℕ) (old new : Bus) (events : List Event)
     (result : Result ℕ SendFault) : Type 0 where
   nothing : (why : SendFault) → IsUnsent message (length before) why → result ≡ Err why → new ≡ old → after ≡ before
       → events ≡ [] → Sends message before after old new events result
-  write : (outcome : Result (Unit {0}) MessageFault) → message.flags ≡ writing → after ≡ before
-      → result ≡ counted_as message.length outcome
+  write : (outcome : Result (Unit {0}) MessageFault) → IsReady message (length before) → message.flags ≡ writing
+      → after ≡ before → result ≡ counted_as message.length outcome
       → Sent (IsMessage message.address (write_address message.address) (Writes (take message.length before) outcome)
       message.end outcome) old new events
       → Sends message before after old new events result
-  read : (outcome : Result (Unit {0}) MessageFault) → message.flags ≡ reading
-      → drop message.length after ≡ drop message.length before → result ≡ counted_as message.length outcome
-      → Sent (IsMessage message.address (read_address message.address) (Reads (take message.length after)) message.end
-      outcome) old new events
+  read : (outcome : Result (Unit {0}) MessageFault) → IsReady message (length before) → message.flags ≡ reading
+      → RestStays result before after → result ≡ counted_as message.length outcome
+      → Sent (IsMessage message.address (read_address message.address) (ReadsAll (take message.length after) outcome)
+      message.end outcome) old new events
       → Sends message before after old new events result
-  read_block : (outcome : Result ℕ MessageFault) → message.flags ≡ reading_block → result ≡ block_as outcome
+  read_block : (outcome : Result ℕ MessageFault) → IsReady message (length before) → message.flags ≡ reading_block
+      → RestStays result before after → result ≡ block_as outcome
       → Sent (IsMessage message.address (read_address message.address) (ReadsCounted after message.length outcome)
       message.end outcome) old new events
       → Sends message before after old new events result

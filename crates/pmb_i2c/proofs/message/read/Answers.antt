@@ -1,5 +1,7 @@
-use Rattle.std.proofs.Common.{◌<◌, arith, refl}
+use Rattle.std.proofs.Common.{◌<◌, Ok, arith, refl}
 use Rattle.std.proofs.lemmas.Result.{err_from_is_err_and}
+use Rattle.pmb_i2c.specs.Message.{ReadsAll}
+use Rattle.pmb_i2c.proofs.InTurn.{gives_as}
 use Rattle.pmb_i2c.proofs.Messages.{fails, sends}
 use Rattle.pmb_i2c.proofs.message.read.Goals as goal
 
@@ -12,5 +14,7 @@ returns-in_err-begin-clause-signals g c =
 pub returns-clause-signals : goal.returns-clause-signals
 returns-clause-signals g c =
     let below : c.args.address < 128 = omega arith in
-    sends below (c.read_address.ensures.seven_bits below) refl c.in_ok-begin.ensures c.read_bytes.ensures
+    sends below (c.read_address.ensures.seven_bits below) refl c.in_ok-begin.ensures
+    (gives_as {Else = ReadsAll c.read_bytes.new.bytes (Ok tt)} c.read_bytes.ensures
+    (λ heard reads. record { done = refl; reads = reads }))
     c.finish.ensures

@@ -12,4 +12,5 @@ returns c =
     sent.new.log r)
     (sym c.block_count_of.ensures)
     (reads_block c.args.message c.args.bus.now sent.new.bus c.args.tape.now sent.new.log c.requires.fresh
-    c.args.room.now sent.new.bytes sent.result c.requires.ready c.requires.flags sent.ensures.signals)
+    c.args.room.now sent.new.bytes sent.result c.requires.ready c.requires.flags sent.ensures.rest
+    sent.ensures.untouched sent.ensures.signals)

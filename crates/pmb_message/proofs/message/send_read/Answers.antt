@@ -16,4 +16,4 @@ returns c =
     sent.new.log r)
     (sym c.count_of.ensures)
     (reads_into c.args.message c.args.bus.now sent.new.bus c.args.tape.now sent.new.log c.requires.fresh room
-    sent.new.bytes sent.result long c.requires.ready c.requires.flags sent.ensures.signals)
+    sent.new.bytes sent.result long sent.ensures.untouched c.requires.ready c.requires.flags sent.ensures.signals)

@@ -26,12 +26,11 @@ loop-event-preserved c =
           ∙ (append_assoc c.args.self.now.left (canonical_text (take i events)) (text_of event)
           ∙ ap (λ (last : List ℕ). c.args.self.now.left ++ last) text));
       room = omega (arith, c.push_event.ensures.room, c.loop-event.invariant.room);
-      failures = c.push_event.ensures.failures ∙ c.loop-event.invariant.failures;
     }
 
 -- They are all of them.
-pub returns-clause-left : goal.returns-clause-left
-returns-clause-left c =
+pub returns : goal.returns
+returns c =
     c.loop-event.invariant.left
     ∙ ap (λ (es : List Event). c.args.self.now.left ++ canonical_text es)
     (take_all c.loop-event.event-index c.args.events.now c.loop-event-test.false)

@@ -7,5 +7,4 @@ abbrev pub invariant-loop-event : goal.invariant-loop-event
 invariant-loop-event l = record {
   left : l.self.left ≡ l.fn.self.left ++ canonical_text (take l.event-index l.events);
   room : l.fn.self.room ≤ l.self.room + 3 * l.event-index;
-  failures : l.self.failures ≡ l.fn.self.failures;
 }

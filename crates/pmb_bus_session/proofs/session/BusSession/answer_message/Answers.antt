@@ -21,6 +21,13 @@ push_events-requires c =
     at_ok c.reserve.result (c.is_err.ensures.negation ∙ ap not c.if-is_err.false) c.reserve.ensures.room in
     omega (arith, c.events.ensures.few, room)
 
+-- There was no memory, and all stays.
+pub returns-then-is_err : goal.returns-then-is_err
+returns-then-is_err c =
+    SendsMessage.no_memory c.in-Some.devices.value (ap values c.in-Some.is)
+    (record { profile = refl; devices = sym (ap values c.in-Some.is); text = c.reserve.ensures.left }) refl
+    c.plain-then-is_err.ensures
+
 -- It was sent, and its text comes after what was there.
 pub returns : goal.returns
 returns c =
@@ -31,7 +38,8 @@ returns c =
     refl
     (subst (λ (d : Devices). DevicesSend message c.args.room.now sent.new.room d sent.new.self sent.result)
     c.deref_mut-devices.ensures.value sent.ensures)
-    (c.push_events.ensures.left
+    refl
+    (c.push_events.ensures
     ∙ (ap (λ (front : List ℕ). front ++ canonical_text c.events.result.now) c.reserve.ensures.left
     ∙ ap (λ (events : List Event). c.args.self.now.log.left ++ canonical_text events)
     c.events.ensures.all))

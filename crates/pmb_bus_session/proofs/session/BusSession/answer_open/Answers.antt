@@ -12,7 +12,7 @@ pub returns-then-is_some : goal.returns-then-is_some
 returns-then-is_some c =
     let devices = some_inside (λ (it : Box Devices Global). it.value) c.args.self.now.devices
     (sym c.is_some.ensures ∙ c.if-is_some.true) in
-    Opens.there devices.0 devices.1 (record { devices = refl; text = refl }) c.plain.ensures.0
+    Opens.there devices.0 devices.1 (record { profile = refl; devices = refl; text = refl }) c.plain.ensures
 
 -- They were not, and are made.
 pub returns-else-is_none : goal.returns-else-is_none
@@ -21,4 +21,4 @@ returns-else-is_none c =
     (sym c.is_some.ensures ∙ c.if-is_some.false) in
     let devices = made_inside (λ (it : Box Devices Global). it.value) (OpensFresh (session_profile c.args.self.now))
     c.boxed.result c.boxed.ensures (c.is_none.ensures ∙ ap not c.if-is_none.false) in
-    Opens.made devices.0 none devices.1.0 devices.1.1 refl c.plain.ensures.0
+    Opens.made devices.0 none devices.1.0 devices.1.1 refl refl c.plain.ensures

@@ -1,7 +1,7 @@
 use Rattle.std.proofs.Common.{refl, sym, subst}
 use Rattle.pmb_bus_session.specs.declared.devices.Devices.{Devices}
 use Rattle.pmb_bus_session.specs.Devices.{OpensFresh}
-use Rattle.pmb_bus_session.proofs.devices.Devices.boxed.Goals as goal
+use Rattle.pmb_bus_session.proofs.devices.Devices.around.Goals as goal
 
 -- The bench is new.
 pub returns-in-Ok-new-2 : goal.returns-in-Ok-new-2
