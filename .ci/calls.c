@@ -8,7 +8,10 @@
 #include "pmb.h"
 
 #define THREADS 4
+/* (a board with little memory has less) */
+#ifndef LARGE
 #define LARGE 65536
+#endif
 
 static int fail(const char *what, int line)
 {
