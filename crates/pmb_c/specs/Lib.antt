@@ -4,5 +4,7 @@ pub mod Explain
 pub mod Whole
 pub mod Recorder
 pub mod Handle
+pub mod Asked
 pub mod Reader
+pub mod Items
 pub mod Bus

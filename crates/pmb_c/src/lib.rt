@@ -6,8 +6,8 @@
 //! profile, and write to the caller's buffer: `show`, `check`, `build`, `run` and `json` over whole
 //! inputs ([`whole`]), and hints for mistakes in a profile ([`explain`]). And the capture of a whole
 //! recording, without a profile ([`recording`]). Handles hold what stays from one call to the next: a
-//! profile that was read ([`profile`]), a reader that is fed a capture in pieces ([`reader`]), and a bus of
-//! simulated devices ([`bus`]).
+//! profile that was read ([`profile`]), a reader that is fed a capture in pieces ([`reader`]), of which items
+//! may be taken ([`items`]), and a bus of simulated devices ([`bus`]).
 //!
 //! A C caller is checked by nobody, so no export has a premise on values: each is itself the test
 //! of what it is given. What a C type can't say is the header's to say: no pointer is null, and
@@ -27,6 +27,7 @@ pub mod explain;
 pub mod firmware;
 pub mod handle;
 pub mod held;
+pub mod items;
 pub mod profile;
 pub mod reader;
 mod recorder;

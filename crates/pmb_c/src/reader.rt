@@ -10,11 +10,10 @@ ghost use Rattle.pmb_firmware.specs.CallStatus.{number_of};
 
 use crate::choice::PmbChoice;
 use crate::handle::PmbHandle;
-use crate::held::Held;
+use crate::held::{Held, HeldReader, ReaderKind};
 use crate::profile::lent;
 use crate::result::PmbResult;
 use pmb_capture_reader::{Answer, Fed, ReaderGround, Task, Work};
-use pmb_fact_stream::Telling;
 use pmb_firmware::CallStatus;
 use pmb_in_memory::JsonChoice;
 use pmb_open_reader::OpenReader;
@@ -33,22 +32,9 @@ pub extern "C" fn pmb_reader_open(
     devices: &[u8],
 ) -> i32
     ensures held { profile.new.held ≡ profile.old.held }
-    ensures opens { OpensReader (chosen choice.now devices.now) devices.now profile.old.held reader.new.held result }
+    ensures opens { OpensReader ReaderKind.Objects (chosen choice.now devices.now) devices.now profile.old.held reader.new.held result }
 {
-    *reader = PmbHandle::closed(alloc);
-    let Some(choice) = choice.chosen(devices) else {
-        return CallStatus::BadChoice.number();
-    };
-    match lent(alloc, profile) {
-        Ok(bus) => match opened(alloc, bus, choice, devices) {
-            Ok(held) => {
-                *reader = PmbHandle::of(held);
-                CallStatus::Done.number()
-            }
-            Err(_) => CallStatus::NoMemory.number(),
-        },
-        Err(why) => why.number(),
-    }
+    open_as(alloc, ReaderKind::Objects, reader, profile, choice, devices)
 }
 
 /// Reads the next piece of the text.
@@ -57,7 +43,7 @@ pub extern "C" fn pmb_reader_feed(alloc: Global, reader: &mut PmbHandle, piece: 
     ensures { FeedsReader reader.old.held piece.now reader.new.held result }
 {
     let mut work = Work::new(Task::Feed, piece, &mut []);
-    returned(act(alloc, reader, &mut work))
+    returned(act(alloc, reader, None, &mut work))
 }
 
 /// Takes the end of the text.
@@ -66,10 +52,10 @@ pub extern "C" fn pmb_reader_end(alloc: Global, reader: &mut PmbHandle) -> i32
     ensures { EndsReader reader.old.held reader.new.held result }
 {
     let mut work = Work::new(Task::End, b"", &mut []);
-    returned(act(alloc, reader, &mut work))
+    returned(act(alloc, reader, None, &mut work))
 }
 
-/// Moves what is ready into the room, as far as it fits.
+/// Moves what is ready of the objects into the room, as far as it fits.
 #[unsafe(no_mangle)]
 pub extern "C" fn pmb_reader_take(
     alloc: Global,
@@ -80,7 +66,7 @@ pub extern "C" fn pmb_reader_take(
     ensures { TakesReader reader.old.held room.old reader.new.held room.new told.new result }
 {
     let mut work = Work::new(Task::Take, b"", room);
-    match act(alloc, reader, &mut work) {
+    match act(alloc, reader, Some(ReaderKind::Objects), &mut work) {
         Some(answer) => {
             *told = told_of_taken(answer);
             answer.moved
@@ -100,14 +86,43 @@ pub extern "C" fn pmb_reader_close(alloc: Global, reader: &mut PmbHandle)
     *reader = PmbHandle::closed(alloc);
 }
 
+/// Opens a reader of a kind. What its handle held before is closed first.
+pub(crate) fn open_as(
+    alloc: Global,
+    kind: ReaderKind,
+    reader: &mut PmbHandle,
+    profile: &mut PmbHandle,
+    choice: &PmbChoice,
+    devices: &[u8],
+) -> i32
+    ensures held { profile.new.held ≡ profile.old.held }
+    ensures opens { OpensReader kind (chosen choice.now devices.now) devices.now profile.old.held reader.new.held result }
+{
+    *reader = PmbHandle::closed(alloc);
+    let Some(choice) = choice.chosen(devices) else {
+        return CallStatus::BadChoice.number();
+    };
+    match lent(alloc, profile) {
+        Ok(bus) => match opened(alloc, kind, bus, choice, devices) {
+            Ok(held) => {
+                *reader = PmbHandle::of(held);
+                CallStatus::Done.number()
+            }
+            Err(_) => CallStatus::NoMemory.number(),
+        },
+        Err(why) => why.number(),
+    }
+}
+
 /// What a handle of a reader holds: one to which nothing was given.
 fn opened(
     alloc: Global,
+    kind: ReaderKind,
     bus: Arc<BusProfile, Global>,
     choice: JsonChoice,
     devices: &[u8],
 ) -> Result<Box<Held>, AllocError>
-    ensures { IfOk result (λ held. HasReader choice devices.now (arc_value bus) held.value) }
+    ensures { IfOk result (λ held. HasReader kind choice devices.now (arc_value bus) held.value) }
 {
     let mut wanted = Vec::new(alloc);
     wanted.extend_from_slice(devices)?;
@@ -117,28 +132,31 @@ fn opened(
         digits: choice.digits,
         start: choice.start,
         bad_words: choice.bad_words,
-        telling: Telling::Objects,
+        telling: kind.telling(),
         alloc,
     };
     let reader = OpenReader::new(alloc, base)?;
-    match Box::new(alloc, Held::Reader(reader)) {
+    match Box::new(alloc, Held::Reader(HeldReader { kind, reader })) {
         Ok(held) => Ok(held),
         Err(_) => Err(AllocError),
     }
 }
 
-/// Has the reader that a handle holds do what is asked; `None` where the handle holds none.
-fn act(alloc: Global, handle: &mut PmbHandle, work: &mut Work<'_>) -> Option<Answer>
-    ensures { ActsHeld handle.old.held work.old handle.new.held work.new result }
+/// Has the reader that a handle holds do the work; `None` where the handle holds none of the kind that is
+/// asked for.
+pub(crate) fn act(
+    alloc: Global,
+    handle: &mut PmbHandle,
+    asked: Option<ReaderKind>,
+    work: &mut Work<'_>,
+) -> Option<Answer>
+    ensures { ActsHeld asked handle.old.held work.old handle.new.held work.new result }
 {
     let mut held = handle.take(alloc)?;
     let answer = match &mut *held {
         Held::Profile(_) => None,
         Held::Bus(_) => None,
-        Held::Reader(reader) => {
-            reader.act(work);
-            work.answer
-        }
+        Held::Reader(reader) => reader.act(asked, work),
     };
     *handle = PmbHandle::of(held);
     answer

@@ -56,6 +56,8 @@ pub record Takes (old : CaptureReader) (before : List ℕ) (new : CaptureReader)
   pub as_many : moved ≡ min (length (reader_ready old)) (length before)
   pub room : after ≡ take moved (reader_ready old) ++ drop moved before
   pub left : reader_ready old ≡ take moved after ++ reader_ready new
+  pub state : reader_state new ≡ reader_state old
+  pub tally : reader_tally new ≡ reader_tally old
 
 -- what was done for a task with this piece, this room before and after, and so many bytes moved
 abbrev pub DoesFor : Task → CaptureReader → CaptureReader → List ℕ → List ℕ → List ℕ → ℕ → Type 0

@@ -3,7 +3,8 @@
 //! A [`CaptureReader`] is [fed](CaptureReader::feed) the text of a capture in pieces of any size, and keeps
 //! what `pmb json` or `pmb log` writes of it until it is [taken](CaptureReader::take). However the text is
 //! cut, the lines are the same, and those of a piece are ready as soon as it was fed. A [`ReaderGround`] has
-//! all that a reader borrows, for who keeps the two together.
+//! all that a reader borrows, for who keeps the two together. By the [`laws`] a reader of items has whole
+//! records ready.
 //!
 //! ```rust
 //! let mut reader = CaptureReader::new(rt.alloc(), &profile, choice, AfterBadToken::End)?;
@@ -16,6 +17,7 @@
 #![tactic(auto)]
 
 mod fresh;
+pub mod laws;
 mod queue;
 mod reader;
 mod reader_ground;

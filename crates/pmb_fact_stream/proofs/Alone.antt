@@ -7,7 +7,7 @@ use Rattle.pmb_json_objects.specs.Seen.{SeenData}
 use Rattle.pmb_keeper.specs.Setting.{before_fact}
 use Rattle.pmb_fact_stream.specs.Lines.{told_line}
 use Rattle.pmb_fact_stream.specs.declared.telling.Telling.{Telling}
-use Rattle.pmb_fact_stream.specs.declared.telling.Telling.TheVariants.{Lines, Nothing, Objects}
+use Rattle.pmb_fact_stream.specs.declared.telling.Telling.TheVariants.{Items, Lines, Nothing, Objects}
 
 module _ (seen : SeenData) (head : Head) where
   other_alone : (telling : Telling) (addr : ℕ)
@@ -15,6 +15,7 @@ module _ (seen : SeenData) (head : Head) where
       ≡ told_line telling (record seen { before = before_fact seen.before (Other addr) }) head (Other addr)
   other_alone Objects addr = refl
   other_alone (Lines layout) addr = refl
+  other_alone Items addr = refl
   other_alone Nothing addr = refl
 
   word_alone : (telling : Telling) (word : List ℕ)
@@ -22,6 +23,7 @@ module _ (seen : SeenData) (head : Head) where
       ≡ told_line telling (record seen { before = before_fact seen.before (BadToken word) }) head (BadToken word)
   word_alone Objects word = refl
   word_alone (Lines layout) word = refl
+  word_alone Items word = refl
   word_alone Nothing word = refl
 
   -- so is that of each fact, after what came before it

@@ -18,3 +18,4 @@ pub mod Wholes
 pub mod Ends
 pub mod Counts
 pub mod Walking
+mod Records

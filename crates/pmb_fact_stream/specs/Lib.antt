@@ -1,6 +1,7 @@
 pub mod Telling
 pub mod Choice
 pub mod Lines
+pub mod Records
 pub mod Keeping
 pub mod UnderWay
 pub mod Others

@@ -3,6 +3,8 @@ use Rattle.std.specs.Prelude.{ℕ, Bool, List, [], filter, flat_map}
 use Rattle.pmb_command.specs.Parts.{DeviceParts}
 use Rattle.pmb_facts.specs.Fact.{FactData, WhatData, fact_device}
 use Rattle.pmb_facts.specs.Object.{object_of}
+use Rattle.pmb_items.specs.Item.{item_of}
+use Rattle.pmb_items.specs.Record.{item_bytes}
 use Rattle.pmb_json_objects.specs.Counts.{CountsData, end_objects}
 use Rattle.pmb_json_objects.specs.Head.{Head}
 use Rattle.pmb_json_objects.specs.Object.{is_wanted, object_lines}
@@ -12,12 +14,13 @@ use Rattle.pmb_log_lines.specs.Line.{line_of}
 use Rattle.pmb_transaction.specs.Transaction.{TransactionData}
 use Rattle.pmb_fact_stream.specs.Choice.{ChoiceData, gives_others}
 use Rattle.pmb_fact_stream.specs.declared.telling.Telling.{Telling}
-use Rattle.pmb_fact_stream.specs.declared.telling.Telling.TheVariants.{Objects, Lines, Nothing}
+use Rattle.pmb_fact_stream.specs.declared.telling.Telling.TheVariants.{Objects, Lines, Items, Nothing}
 
--- the line of a fact: its object as JSON, or its line for people; or none
+-- the line of a fact: its object as JSON, its line for people, or the record of its item, which has no LF; or none
 abbrev pub told_line : Telling → SeenData → Head → WhatData → List ℕ
 told_line Objects seen head what = object_line (object_of seen head what).members
 told_line (Lines layout) seen head what = line_of layout seen head what
+told_line Items seen head what = item_bytes (item_of seen head what)
 told_line Nothing seen head what = []
 
 module _ (choice : ChoiceData) (profile : List DeviceParts) where
@@ -39,6 +42,7 @@ module _ (choice : ChoiceData) (profile : List DeviceParts) where
   abbrev pub last_lines_of : Telling → CountsData → List ℕ
   last_lines_of Objects counts = object_lines choice.devices (end_objects profile (gives_others choice) counts)
   last_lines_of (Lines layout) counts = []
+  last_lines_of Items counts = []
   last_lines_of Nothing counts = []
 
   abbrev pub last_lines : CountsData → List ℕ

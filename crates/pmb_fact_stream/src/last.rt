@@ -141,7 +141,7 @@ impl<'p> Stream<'p> {
     {
         match self.choice.telling {
             Telling::Objects => self.put_count_objects(waiting, writer),
-            Telling::Lines(_) | Telling::Nothing => Ok(()),
+            Telling::Lines(_) | Telling::Items | Telling::Nothing => Ok(()),
         }
     }
 

@@ -4,7 +4,7 @@
 //! fact of a packet or a refusal as soon as its last event has come, hands the fact to its keeper, and
 //! counts them. It knows where each word stands, also after a word that is no token. [`Choice`] says
 //! which facts are wanted, and its [`Telling`] how they are told: as objects of `json`, as lines of
-//! `log`, or not at all. A keeper is given all facts, wanted or not.
+//! `log`, as records of items, or not at all. A keeper is given all facts, wanted or not.
 //!
 //! ```rust
 //! let choice = Choice { digits: Digits::default(), start: Start::AllKnown, devices: &[], ignored: None, telling: Telling::Objects };

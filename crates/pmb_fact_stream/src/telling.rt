@@ -13,6 +13,7 @@ ghost use Rattle.pmb_fact_stream.specs.Telling.{Fits};
 
 use pmb_facts::{Fact, append_object};
 use pmb_io::{ROOM, Waiting};
+use pmb_items::append_item;
 use pmb_json_objects::{OBJECT, Seen};
 use pmb_log_lines::{Layout, append_log_line};
 
@@ -23,6 +24,8 @@ pub enum Telling {
     Objects,
     /// Each as a line for people, whose columns are that wide.
     Lines(Layout),
+    /// Each as the record of its item, of 680 bytes and without an LF.
+    Items,
     /// Not at all.
     Nothing,
 }
@@ -39,6 +42,7 @@ impl Telling {
         match self {
             Telling::Objects => append_object(waiting, seen, fact),
             Telling::Lines(layout) => append_log_line(waiting, layout, seen, fact),
+            Telling::Items => append_item(waiting, seen, fact),
             Telling::Nothing => {}
         }
     }

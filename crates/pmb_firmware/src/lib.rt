@@ -4,7 +4,8 @@
 //! directions ([`encode`], [`decode`]), quantities and their texts ([`parse`], [`quantity_text`]), the
 //! names of commands and of status bits ([`command_name`], [`bit_name`]), and the events of a
 //! capture's text ([`lex`], [`lex_end`]). The status of a call is a number, [`CallStatus`], that has a
-//! name ([`status_name`]). No call has a premise on values: each checks what it is given.
+//! name ([`status_name`]). No call has a premise on values: each checks what it is given. Other names are
+//! put by [`put_name`].
 //!
 //! The lexer's state is a plain struct, [`PmbLexer`], that the caller holds. [`PmbLexer::feed`] goes up
 //! to the end of the next event, and [`PmbLexer::finish`] takes the word that the text ends with. They
@@ -40,7 +41,7 @@ pub use call_status::CallStatus;
 pub use event::{PmbEvent, lex, lex_end};
 pub use format::PmbFormat;
 pub use lexer::PmbLexer;
-pub use name::{bit_name, command_name, status_name};
+pub use name::{bit_name, command_name, put_name, status_name};
 pub use number::{decode, encode, parse};
 pub use pec::pec_after;
 pub use quantity::PmbQuantity;

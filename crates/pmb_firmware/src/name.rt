@@ -96,3 +96,17 @@ pub fn status_name(status: i32, text: &mut [u8], length: &mut usize) -> i32
         None => put_none(CallStatus::NoName, length),
     }
 }
+
+/// Writes a name, if there is one, and a NUL.
+///
+/// `length` is told how many characters it has. The status is that there is none, and then `length` is
+/// 0; or that name and NUL don't fit into the room. Then the room stays as it was.
+pub fn put_name(name: Option<&[u8]>, text: &mut [u8], length: &mut usize) -> i32
+    ensures { record { status = result; room = text.new; length = length.new }
+        ≡ put_some (some_name (option_map (λ n. n.now) name.entry)) text.old }
+{
+    match name {
+        Some(name) => put(name, text, length),
+        None => put_none(CallStatus::NoName, length),
+    }
+}

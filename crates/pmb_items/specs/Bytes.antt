@@ -1,5 +1,5 @@
 -- Bytes in rooms of fixed lengths, and numbers that may be missing.
-use Rattle.std.specs.Prelude.{ℕ, ◌-◌, Bool, true, false, Option, Some, None, List, ◌++◌, length, replicate}
+use Rattle.std.specs.Prelude.{ℕ, ◌-◌, Bool, true, false, Option, Some, None, List, ◌++◌, length, replicate, take}
 use Rattle.pmb_items.specs.declared.item.ItemLeg.{ItemLeg}
 use Rattle.pmb_items.specs.declared.item.ItemText.{ItemText}
 
@@ -12,9 +12,9 @@ abbrev pub flag : Bool → ℕ
 flag true = 1
 flag false = 0
 
--- bytes, and 0 after them
+-- as many bytes as there is room for, and 0 after them
 abbrev pub padded : ℕ → List ℕ → List ℕ
-padded room bytes = bytes ++ replicate (room - length bytes) 0
+padded room bytes = take room bytes ++ replicate (room - length bytes) 0
 
 abbrev pub leg : Option (List ℕ) → ItemLeg
 leg None = record { length = 0xffff; bytes = replicate 258 0 }

@@ -1,5 +1,5 @@
 -- Why an event was refused.
-use Rattle.std.specs.Prelude.{ℕ, Option, Some, None}
+use Rattle.std.specs.Prelude.{ℕ, ◌==◌, if◌then◌else◌, Option, Some, None}
 use Rattle.pmb_bus.specs.declared.event.Event.{Event}
 use Rattle.pmb_bus.specs.declared.event.Event.TheVariants.{Start, Byte, Ack, Nack, Stop}
 use Rattle.pmb_bus.specs.declared.kinds.Kinds.{Kinds}
@@ -20,6 +20,20 @@ reason_number TooLong = 6
 reason_number TooShort = 7
 reason_number WrongEvent = 8
 reason_number Truncated = 9
+
+-- the reason of a number, if it is that of one
+abbrev pub reason_of : ℕ → Option Reason
+reason_of number =
+    if number == 1 then Some ReadFirst
+    else if number == 2 then Some BadRestart
+    else if number == 3 then Some BadPec
+    else if number == 4 then Some UnknownDevice
+    else if number == 5 then Some UnknownCommand
+    else if number == 6 then Some TooLong
+    else if number == 7 then Some TooShort
+    else if number == 8 then Some WrongEvent
+    else if number == 9 then Some Truncated
+    else None
 
 -- the refused event; none where the events ended
 abbrev pub got_kind : Option Event → ℕ

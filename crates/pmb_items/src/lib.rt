@@ -4,7 +4,7 @@
 //! begins, its kind, the device and the command, the bytes that were sent and replied, the number that the
 //! data are, and why an event was refused. By the [`laws`] it names the device that the object of the fact
 //! names. [`append_item`] appends its record, of [`RECORD`] bytes: the layout of a struct of C without
-//! padding.
+//! padding. [`reason_of`] is the reason that its number names.
 #![tactic(auto)]
 
 mod append;
@@ -24,3 +24,4 @@ pub use item::{
     NONE, UNKNOWN,
 };
 pub use record::RECORD;
+pub use refusal::reason_of;

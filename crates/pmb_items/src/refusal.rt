@@ -2,7 +2,7 @@
 
 ghost use Rattle.std.specs.Prelude.{◌≡◌};
 ghost use Rattle.pmb_bus.specs.Kinds.{kind_of};
-ghost use Rattle.pmb_items.specs.Refusal.{event_byte, got_byte, got_kind, no_refusal, reason_number, refusal_of};
+ghost use Rattle.pmb_items.specs.Refusal.{event_byte, got_byte, got_kind, no_refusal, reason_number, reason_of, refusal_of};
 
 use crate::item::ItemRefusal;
 use pmb_bus::{Event, Kinds};
@@ -45,6 +45,24 @@ fn reason_number(reason: Reason) -> u8
         Reason::TooShort => 7,
         Reason::WrongEvent => 8,
         Reason::Truncated => 9,
+    }
+}
+
+/// The reason of a number, as items have it; `None` where it is that of none.
+pub fn reason_of(number: u32) -> Option<Reason>
+    ensures { result ≡ reason_of number }
+{
+    match number {
+        1 => Some(Reason::ReadFirst),
+        2 => Some(Reason::BadRestart),
+        3 => Some(Reason::BadPec),
+        4 => Some(Reason::UnknownDevice),
+        5 => Some(Reason::UnknownCommand),
+        6 => Some(Reason::TooLong),
+        7 => Some(Reason::TooShort),
+        8 => Some(Reason::WrongEvent),
+        9 => Some(Reason::Truncated),
+        _ => None,
     }
 }
 

@@ -1,5 +1,5 @@
 use Rattle.std.proofs.Common.{ℕ, List, ◌++◌, ◌∙◌, Some, refl, ap}
-use Rattle.pmb_c.specs.Reader.{reader_in}
+use Rattle.pmb_c.specs.Reader.{kind_in, reader_in}
 use Rattle.pmb_c.specs.declared.held.Held.{Held}
 use Rattle.pmb_c.proofs.reader.opened.Goals as goal
 
@@ -17,8 +17,9 @@ returns-in-Ok c =
         digits = refl;
         start = refl;
         bad_words = refl;
-        objects = refl;
+        told = c.telling.ensures.told;
       };
       fresh = fresh.2;
       is = ap (λ (holds : Held). reader_in (Some holds)) c.in-Ok.ensures.ok ∙ fresh.1;
+      of_kind = ap (λ (holds : Held). kind_in (Some holds)) c.in-Ok.ensures.ok;
     }

@@ -24,12 +24,12 @@ fits None = refl
 
 -- what was asked is to take the end
 over : (from after : Option Held) (work done : Work) (answer : Option Answer) → work.task ≡ task.End
-    → ActsHeld from work after done answer → EndsReader from after (number_of_answer answer)
+    → ActsHeld None from work after done answer → EndsReader from after (number_of_answer answer)
 over from after work done (Some answer) is_end got =
     let acts = got.4 in
     let does = subst (λ (t : Task). DoesFor t got.0 got.1 work.piece.now work.room.now done.room.now acts.answer.moved)
     is_end acts.does in
-    Over got.0 got.1 got.2 got.3 does.0
+    Over got.0 got.1 got.2 got.3 got.6 does.0
     (ap number_of_answer (sym got.5 ∙ acts.answered) ∙ ap number_of_fed acts.state)
 over from after work done None is_end got = Closed got.0 got.1 refl
 

@@ -24,12 +24,12 @@ fits None = refl
 
 -- what was asked is to read a piece
 read : (from after : Option Held) (work done : Work) (piece : List ℕ) (answer : Option Answer) → work.task ≡ task.Feed
-    → work.piece.now ≡ piece → ActsHeld from work after done answer → FeedsReader from piece after (number_of_answer answer)
+    → work.piece.now ≡ piece → ActsHeld None from work after done answer → FeedsReader from piece after (number_of_answer answer)
 read from after work done piece (Some answer) is_feed of_piece got =
     let acts = got.4 in
     let does = subst (λ (t : Task). DoesFor t got.0 got.1 work.piece.now work.room.now done.room.now acts.answer.moved)
     is_feed acts.does in
-    Read got.0 got.1 got.2 got.3 (subst (λ (p : List ℕ). Feeds got.0 p got.1) of_piece does.0)
+    Read got.0 got.1 got.2 got.3 got.6 (subst (λ (p : List ℕ). Feeds got.0 p got.1) of_piece does.0)
     (ap number_of_answer (sym got.5 ∙ acts.answered) ∙ ap number_of_fed acts.state)
 read from after work done piece None is_feed of_piece got = Closed got.0 got.1 refl
 
