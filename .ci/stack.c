@@ -3,8 +3,8 @@
  *
  *   CALL PROFILE INPUT
  *
- * with the names of two files; CALL is show, check, build, run, json or fault, or reader or bus, for all
- * calls of such a handle, or the number of a source of pmb_import, whose PROFILE is not read. It prints
+ * with the names of two files; CALL is show, check, build, run, json or fault, or reader, items or bus, for
+ * all calls of such a handle, or the number of a source of pmb_import, whose PROFILE is not read. It prints
  * the most that each used, and fails where that is more than MOST bytes. What a thread uses itself
  * counts too.
  *
@@ -21,10 +21,10 @@
 #define SIZE ((size_t)1 << 20)
 #define PAINT 0xa5
 
-enum call { SHOW, CHECK, BUILD, RUN, JSON, FAULT, READER, BUS, IMPORT, CALLS };
+enum call { SHOW, CHECK, BUILD, RUN, JSON, FAULT, READER, ITEMS, BUS, IMPORT, CALLS };
 
-static const char *const names[CALLS] = {"show",  "check",  "build", "run",   "json",
-                                        "fault", "reader", "bus",   "import"};
+static const char *const names[CALLS] = {"show",  "check",  "build", "run", "json",
+                                        "fault", "reader", "items", "bus", "import"};
 
 typedef struct file {
     char *bytes;
@@ -59,6 +59,28 @@ static void use_reader(void)
     }
     pmb_reader_end(&reader);
     pmb_reader_take(&reader, room, sizeof room, &told);
+    pmb_reader_close(&reader);
+}
+
+/* All calls of a reader of items, in the same way. */
+static void use_items(void)
+{
+    pmb_profile held = {0};
+    pmb_reader reader = {0};
+    pmb_item item;
+    size_t at = 0;
+    pmb_profile_open(&held, profile.bytes, profile.length, &told);
+    pmb_reader_open_items(&reader, &held, &choice, none, 0);
+    pmb_profile_close(&held);
+    while (at < input.length) {
+        const size_t left = input.length - at, some = left < 1000 ? left : 1000;
+        pmb_reader_feed(&reader, input.bytes + at, some);
+        while (pmb_reader_next(&reader, &item, &told) > 0) {
+        }
+        at += some;
+    }
+    pmb_reader_end(&reader);
+    pmb_reader_next(&reader, &item, &told);
     pmb_reader_close(&reader);
 }
 
@@ -98,6 +120,7 @@ static void *run(void *unused)
     case JSON: pmb_json(p, pl, i, il, &choice, none, 0, room, sizeof room, &told); break;
     case FAULT: pmb_profile_fault(p, pl, room, sizeof room, &told); break;
     case READER: use_reader(); break;
+    case ITEMS: use_items(); break;
     case BUS: use_bus(); break;
     case IMPORT: pmb_import(&recorder, "", 0, i, il, room, sizeof room, &told); break;
     case CALLS: break;

@@ -70,7 +70,8 @@ enum pmb_status {
     PMB_TOO_LARGE = 14,
     /* The standard has no name there. */
     PMB_NO_NAME = 15,
-    /* The text, and the NUL after it where it has one, don't fit into the room. */
+    /* The text, and the NUL after it where it has one, don't fit into the room; or more items are ready
+     * than the one that was moved. */
     PMB_NO_ROOM = 16,
     /* The profile has a fault. The result says which, and where. */
     PMB_BAD_PROFILE = 17,
@@ -176,6 +177,7 @@ int32_t pmb_quantity_parse(const char *text, size_t length, pmb_quantity *quanti
 #define PMB_MOST_COMMAND_NAME 32
 #define PMB_MOST_BIT_NAME 17
 #define PMB_MOST_STATUS_NAME 20
+#define PMB_MOST_REASON_NAME 14
 
 /* Writes the text of a quantity, and a NUL: its shortest exact decimal where one has at most 24
  * digits after the point, and otherwise numerator, '/' and denominator in lowest terms. length is
@@ -198,6 +200,35 @@ int32_t pmb_bit_name(uint8_t code, uint8_t bit, char *text, size_t room, size_t 
  * set to how many characters it has, also where they don't fit; 0 where there is no such status.
  * Returns PMB_NO_NAME, or else PMB_NO_ROOM. */
 int32_t pmb_status_name(int32_t status, char *text, size_t room, size_t *length);
+
+/* Why an event is refused: the first of these that holds (docs/packets.md, "Refusals, and their
+ * reasons"). */
+enum pmb_reason {
+    /* The first byte of a packet is an address for reading. */
+    PMB_REASON_READ_FIRST = 1,
+    /* The first byte after a repeated START is an address that may not come there. */
+    PMB_REASON_BAD_RESTART = 2,
+    /* A packet error code of a reply is wrong; or ACK of a written byte that can only be a wrong one. */
+    PMB_REASON_BAD_PEC = 3,
+    /* ACK of an address that no device has. */
+    PMB_REASON_UNKNOWN_DEVICE = 4,
+    /* ACK of a command code that the device does not take there. */
+    PMB_REASON_UNKNOWN_COMMAND = 5,
+    /* ACK of a byte of a reply that has to end there. */
+    PMB_REASON_TOO_LONG = 6,
+    /* NACK of a byte of a reply that has to continue. */
+    PMB_REASON_TOO_SHORT = 7,
+    /* Any other event that may not come there. */
+    PMB_REASON_WRONG_EVENT = 8,
+    /* The capture ends inside a packet. */
+    PMB_REASON_TRUNCATED = 9
+};
+
+/* Writes the name of a reason, one of enum pmb_reason, as objects of pmb_json have it, and a NUL: as
+ * "BadPec" of 3. length is set to how many characters it has, also where they don't fit; 0 where there
+ * is no such reason.
+ * Returns PMB_NO_NAME, or else PMB_NO_ROOM. */
+int32_t pmb_reason_name(int32_t reason, char *text, size_t room, size_t *length);
 
 /* The kinds of events of a bus. */
 enum pmb_event_kind { PMB_START = 0, PMB_BYTE = 1, PMB_ACK = 2, PMB_NACK = 3, PMB_STOP = 4 };
@@ -279,7 +310,8 @@ typedef struct pmb_result {
      * from 0; -1 where it is in none. */
     int32_t device;
     int32_t command;
-    /* How many bytes the text has; what the call returns. */
+    /* How many bytes the text has; what the call returns, but for pmb_reader_take, pmb_reader_next and
+     * pmb_bus_events. */
     size_t length;
     /* How many packets a capture has and how many refusals, a word that is no token among them; how
      * many lines were built or requests done, and how many had a fault or failed; how many packets
@@ -428,36 +460,161 @@ size_t pmb_profile_json(pmb_profile *profile, const char *capture, size_t captur
                         const pmb_choice *choice, const uint8_t *devices, size_t devices_length,
                         char *out, size_t room, pmb_result *told);
 
-/* A reader of a capture whose text comes in pieces. */
+/* A reader of a capture whose text comes in pieces. It is one of objects or one of items, as it was
+ * opened. */
 typedef struct pmb_reader {
     void *held;
 } pmb_reader;
 
-/* Opens a reader under a profile, with the choices of pmb_json. What the reader held before is closed
- * first. The profile may be closed before the reader. A reader takes 94 KB, and 122 KB while it is
- * opened; the list of devices; and room for what is ready and not taken.
+/* Opens a reader of objects under a profile, with the choices of pmb_json. What the reader held before is
+ * closed first. The profile may be closed before the reader. A reader takes 94 KB, and 122 KB while it
+ * is opened; the list of devices; and room for what is ready and not taken.
  * Returns PMB_OK, PMB_CLOSED where the profile is, PMB_BAD_CHOICE or PMB_NO_MEMORY; then the reader is
  * closed. */
 int32_t pmb_reader_open(pmb_reader *reader, pmb_profile *profile, const pmb_choice *choice,
                         const uint8_t *devices, size_t devices_length);
 
 /* Reads the next piece of the text, of any size: the objects of what it completes (docs/json.md) are
- * ready after it, each as a line of JSON. However the text is cut, they are those of pmb_json.
+ * ready after it, each as a line of JSON, or its items. However the text is cut, they are those of
+ * pmb_json.
  * Returns PMB_OK; or PMB_ENDED, where reading has ended: at a word that is no token (if the choice is
  * PMB_END), or since the end was given; or PMB_NO_MEMORY: what was ready stays, and no more is read. */
 int32_t pmb_reader_feed(pmb_reader *reader, const char *piece, size_t length);
 
-/* The text ends here: its last objects are ready after it. Returns as pmb_reader_feed does. */
+/* The text ends here: its last objects or items are ready after it. Returns as pmb_reader_feed does. */
 int32_t pmb_reader_end(pmb_reader *reader);
 
 /* Moves what is ready into the room as far as it fits, the oldest first, and returns how many bytes that
  * are. In `told` the status is PMB_OK, or PMB_NO_ROOM where some stay ready; `length` is how many were
  * ready, and `packets` and `refusals` are the counts so far, as those of pmb_json. With a room of 0 bytes
- * nothing moves. */
+ * nothing moves. A reader of items is as a closed one: the status is PMB_CLOSED. */
 size_t pmb_reader_take(pmb_reader *reader, char *out, size_t room, pmb_result *told);
 
 /* Closes the reader. What is ready and was not taken is gone. */
 void pmb_reader_close(pmb_reader *reader);
+
+/* The kinds of items: each is what `kind` of an object names. */
+enum pmb_item_kind {
+    /* A write, or a part of a group. */
+    PMB_ITEM_WRITE = 1,
+    PMB_ITEM_READ = 2,
+    /* A process call. */
+    PMB_ITEM_CALL = 3,
+    /* A packet in which a device refused a byte: its last leg. */
+    PMB_ITEM_REFUSED = 4,
+    PMB_ITEM_ALERT = 5,
+    /* A packet to an address that the profile ignores. */
+    PMB_ITEM_OTHER = 6,
+    /* An event that no packet allows there, or an end inside a packet. */
+    PMB_ITEM_REFUSAL = 7,
+    /* A word that is no token. */
+    PMB_ITEM_BAD_TOKEN = 8
+};
+
+/* What the data of a write or a read are as a number, or why there is none (docs/json.md). */
+enum pmb_item_number {
+    /* They are no number. */
+    PMB_NUMBER_NONE = 0,
+    /* The value of a word. */
+    PMB_NUMBER_VALUE = 1,
+    /* A factor of VOUT_COMMAND. */
+    PMB_NUMBER_RATIO = 2,
+    /* VOUT_MODE, or the page, isn't known. */
+    PMB_NUMBER_UNKNOWN = 3,
+    /* There is no such page, or all pages are selected and differ. */
+    PMB_NUMBER_PAGE = 4,
+    /* Under VID: a correction, or a page or a type that has no table. */
+    PMB_NUMBER_VID = 5,
+    /* Under VID: a limit that is a factor of VOUT_COMMAND. */
+    PMB_NUMBER_RELATIVE = 6,
+    /* The profile has no coefficients for DIRECT. */
+    PMB_NUMBER_COEFFICIENTS = 7,
+    /* In half precision an infinity, or not a number. */
+    PMB_NUMBER_NAN = 8,
+    /* No code of the VID table. */
+    PMB_NUMBER_CODE = 9,
+    /* The code of the VID table for an output that is off. */
+    PMB_NUMBER_OFF = 10
+};
+
+/* What a device refused. */
+enum pmb_item_refused {
+    PMB_REFUSED_ADDRESS = 1,
+    PMB_REFUSED_CODE = 2,
+    /* A byte after the code. */
+    PMB_REFUSED_BYTE = 3,
+    PMB_REFUSED_READ_ADDRESS = 4
+};
+
+/* A number or a text that doesn't apply. */
+#define PMB_ITEM_NONE 0xffffu
+/* A page or a phase that applies, and isn't known. */
+#define PMB_ITEM_UNKNOWN 0xfffeu
+/* A page or a phase: all of them are selected. */
+#define PMB_ITEM_ALL 0xffu
+
+/* The bytes of a leg. */
+typedef struct pmb_leg {
+    uint16_t length;    /* how many there are; PMB_ITEM_NONE where there is no such leg */
+    uint8_t bytes[258]; /* these, and 0 after them */
+} pmb_leg;
+
+/* A short text, without a NUL. */
+typedef struct pmb_short_text {
+    uint16_t length; /* how many bytes it has; PMB_ITEM_NONE where there is no such text */
+    char bytes[40];  /* these, and 0 after them */
+} pmb_short_text;
+
+/* A packet, a part of a group, a refusal, or a word that is no token: what its object says (docs/json.md
+ * explains each field, most under the same name), but for names, units, bits, texts and what fields of
+ * the data say. It has 680 bytes and no padding. Its numbers have their low byte first, as the processors
+ * have them that the library runs on. */
+typedef struct pmb_item {
+    uint64_t at;         /* the number of its first event, from 0 */
+    uint64_t line;       /* where that event's word begins, both from 1, the column in bytes */
+    uint64_t column;
+    uint64_t part;       /* of a write and of PMB_ITEM_REFUSED: which part, from 1, of how many, 1 but for
+                          * a group; else 0 */
+    uint64_t parts;
+    pmb_quantity value;  /* exact, where `number` is PMB_NUMBER_VALUE or PMB_NUMBER_RATIO; else 0/0 */
+    uint16_t code;       /* the command code, or PMB_ITEM_NONE */
+    uint16_t page;       /* of a paged command: what was selected before the packet, also PMB_ITEM_ALL or
+                          * PMB_ITEM_UNKNOWN; else PMB_ITEM_NONE */
+    uint16_t phase;      /* the same of a command that has a value for each phase */
+    uint16_t pec;        /* 1 where the packet has a packet error code, and else 0; of PMB_ITEM_REFUSED,
+                          * where one was refused, 1 where it was right, and else 0; else PMB_ITEM_NONE */
+    uint16_t right_pec;  /* the code that is right, where one was refused or is wrong; else PMB_ITEM_NONE */
+    uint16_t device;     /* the address, of seven bits, or PMB_ITEM_NONE */
+    uint8_t kind;        /* one of enum pmb_item_kind */
+    uint8_t refused;     /* of PMB_ITEM_REFUSED one of enum pmb_item_refused; else 0 */
+    uint8_t number;      /* one of enum pmb_item_number */
+    uint8_t assumed;     /* 1 where the value rests on a VOUT_MODE that the capture has not told; else 0 */
+    uint8_t reason;      /* of PMB_ITEM_REFUSAL one of enum pmb_reason; else 0, as the next three are */
+    uint8_t expected;    /* the kinds of events that might have come, the sum of 1 << kind for each, with
+                          * the numbers of enum pmb_event_kind */
+    uint8_t got;         /* that of the event that came, 1 << kind; 0 at an end */
+    uint8_t got_byte;    /* its byte, where it is PMB_BYTE; else 0 */
+    pmb_leg sent;        /* the data of a write or a call; of PMB_ITEM_REFUSED, and of PMB_ITEM_REFUSAL
+                          * in its last written leg, all bytes after the address */
+    pmb_leg reply;       /* the data of a read or a call, or the byte of an alert; of PMB_ITEM_REFUSAL in a
+                          * leg that is read, all bytes after the address */
+    pmb_short_text time; /* of its packet, as the capture has it */
+    pmb_short_text word; /* of PMB_ITEM_BAD_TOKEN, at most its first 32 bytes */
+} pmb_item;
+
+/* Opens a reader of items under a profile. All else is as for pmb_reader_open. (The digits of the choice
+ * make no difference to items.) Each item that is ready takes 680 bytes until it is taken.
+ * Returns PMB_OK, PMB_CLOSED where the profile is, PMB_BAD_CHOICE or PMB_NO_MEMORY; then the reader is
+ * closed. */
+int32_t pmb_reader_open_items(pmb_reader *reader, pmb_profile *profile, const pmb_choice *choice,
+                              const uint8_t *devices, size_t devices_length);
+
+/* Moves the oldest item that is ready into the struct, and returns 1; or leaves the struct as it is, and
+ * returns 0, where none is ready. In `told` the status is PMB_OK, or PMB_NO_ROOM where more items stay
+ * ready; `length` is how many were ready before this one was moved, and `packets` and `refusals` are the
+ * counts so far, as those of pmb_json. A reader of objects is as a closed one: the status is
+ * PMB_CLOSED. */
+size_t pmb_reader_next(pmb_reader *reader, pmb_item *item, pmb_result *told);
 
 /* A bus of simulated devices: those of a profile, which keep what is written to them from one call to the
  * next (docs/devices.md). What is on the wire is logged until pmb_bus_events takes it. */
