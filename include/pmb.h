@@ -641,9 +641,8 @@ typedef struct pmb_message {
 
 /* Makes the devices of a profile, each as it is at power-up. What the handle held before is closed
  * first. The profile may be closed before the bus. A bus takes 105 KB, and all memory that its devices
- * will ever need (docs/devices.md, "What it costs"); after that only the log grows, by 52 KB at the first
- * messages and requests, and by what isn't taken of it. This call uses less than 108 KB of stack, and
- * the other calls of a bus less than 96 KB.
+ * will ever need (docs/devices.md, "What it costs"); after that only the log grows, by 66 KB at the first
+ * messages and requests, and by what isn't taken of it.
  * Returns PMB_OK, PMB_CLOSED where the profile is, or PMB_NO_MEMORY; then the bus is closed. */
 int32_t pmb_bus_open(pmb_bus *bus, pmb_profile *profile);
 
