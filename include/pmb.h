@@ -486,8 +486,9 @@ int32_t pmb_reader_end(pmb_reader *reader);
 
 /* Moves what is ready into the room as far as it fits, the oldest first, and returns how many bytes that
  * are. In `told` the status is PMB_OK, or PMB_NO_ROOM where some stay ready; `length` is how many were
- * ready, and `packets` and `refusals` are the counts so far, as those of pmb_json. With a room of 0 bytes
- * nothing moves. A reader of items is as a closed one: the status is PMB_CLOSED. */
+ * ready, and `packets` and `refusals` are the counts so far, as those of pmb_json (after PMB_NO_MEMORY
+ * they may count packets that are not told). With a room of 0 bytes nothing moves. A reader of items is
+ * as a closed one: the status is PMB_CLOSED. */
 size_t pmb_reader_take(pmb_reader *reader, char *out, size_t room, pmb_result *told);
 
 /* Closes the reader. What is ready and was not taken is gone. */
@@ -521,9 +522,9 @@ enum pmb_item_number {
     PMB_NUMBER_RATIO = 2,
     /* VOUT_MODE, or the page, isn't known. */
     PMB_NUMBER_UNKNOWN = 3,
-    /* There is no such page, or all pages are selected and differ. */
+    /* There is no such page, also of a list of VID tables, or all pages are selected and differ. */
     PMB_NUMBER_PAGE = 4,
-    /* Under VID: a correction, or a page or a type that has no table. */
+    /* Under VID: a correction; or the profile has no `vid`, or no table for the type. */
     PMB_NUMBER_VID = 5,
     /* Under VID: a limit that is a factor of VOUT_COMMAND. */
     PMB_NUMBER_RELATIVE = 6,
@@ -570,8 +571,11 @@ typedef struct pmb_short_text {
  * the data say. It has 680 bytes and no padding. Its numbers have their low byte first, as the processors
  * have them that the library runs on. */
 typedef struct pmb_item {
-    uint64_t at;         /* the number of its first event, from 0 */
-    uint64_t line;       /* where that event's word begins, both from 1, the column in bytes */
+    uint64_t at;         /* the number of its first event, from 0; of a refusal that of the refused event, of
+                          * PMB_ITEM_OTHER that of its address byte, of an end and of a bad token how many
+                          * events came before */
+    uint64_t line;       /* where that event's word begins, or where the text ends, both from 1, the column
+                          * in bytes */
     uint64_t column;
     uint64_t part;       /* of a write and of PMB_ITEM_REFUSED: which part, from 1, of how many, 1 but for
                           * a group; else 0 */
@@ -581,9 +585,10 @@ typedef struct pmb_item {
     uint16_t page;       /* of a paged command: what was selected before the packet, also PMB_ITEM_ALL or
                           * PMB_ITEM_UNKNOWN; else PMB_ITEM_NONE */
     uint16_t phase;      /* the same of a command that has a value for each phase */
-    uint16_t pec;        /* 1 where the packet has a packet error code, and else 0; of PMB_ITEM_REFUSED,
-                          * where one was refused, 1 where it was right, and else 0; else PMB_ITEM_NONE */
-    uint16_t right_pec;  /* the code that is right, where one was refused or is wrong; else PMB_ITEM_NONE */
+    uint16_t pec;        /* of a write, a read, a call and an alert that a device answered: 1 where there is a
+                          * packet error code, and else 0; of PMB_ITEM_REFUSED, where the refused byte is in
+                          * the place of one, 1 where it is right, and else 0; else PMB_ITEM_NONE */
+    uint16_t right_pec;  /* the code that is right, where one was refused so or is wrong; else PMB_ITEM_NONE */
     uint16_t device;     /* the address, of seven bits, or PMB_ITEM_NONE */
     uint8_t kind;        /* one of enum pmb_item_kind */
     uint8_t refused;     /* of PMB_ITEM_REFUSED one of enum pmb_item_refused; else 0 */
@@ -595,9 +600,10 @@ typedef struct pmb_item {
     uint8_t got;         /* that of the event that came, 1 << kind; 0 at an end */
     uint8_t got_byte;    /* its byte, where it is PMB_BYTE; else 0 */
     pmb_leg sent;        /* the data of a write or a call; of PMB_ITEM_REFUSED, and of PMB_ITEM_REFUSAL
-                          * in its last written leg, all bytes after the address */
+                          * in its last written leg, all bytes after the address, of the latter those
+                          * before the refused event */
     pmb_leg reply;       /* the data of a read or a call, or the byte of an alert; of PMB_ITEM_REFUSAL in a
-                          * leg that is read, all bytes after the address */
+                          * leg that is read, all bytes after the address that came before that event */
     pmb_short_text time; /* of its packet, as the capture has it */
     pmb_short_text word; /* of PMB_ITEM_BAD_TOKEN, at most its first 32 bytes */
 } pmb_item;
@@ -647,8 +653,8 @@ typedef struct pmb_message {
 int32_t pmb_bus_open(pmb_bus *bus, pmb_profile *profile);
 
 /* Sends a message: START or a repeated START, the address, and the bytes. `flags` is one of enum
- * pmb_message_flags. STOP comes after it where `last` is not 0, and also after an address or a byte
- * without ACK. Devices act at STOP.
+ * pmb_message_flags. STOP comes after it where `last` is not 0, and also after an address or a written
+ * byte without ACK, and after a bad count of a block. Devices act at STOP.
  * `length` is how many bytes are written or read; 0 makes a quick command. A byte that no device gives
  * is read as ffh. For PMB_READ_BLOCK `length` is how many bytes follow the block, 1 where a packet error
  * code does; there has to be room for 33 more; and `length` is set to how many came in all, the count
@@ -668,8 +674,8 @@ int32_t pmb_bus_message(pmb_bus *bus, uint16_t address, uint16_t flags, uint8_t 
                         size_t *length, uint8_t last);
 
 /* Does a request, a line as pmb_run takes it, on the devices as they are. What pmb_run would write of it,
- * its events and its result, is logged. In `told`, `packets` is 1 where it was done, and `refusals` is 1
- * where it failed.
+ * its events and its result, is logged; a fault of the line has the number of the request since the bus
+ * was opened. In `told`, `packets` is 1 where it was done, and `refusals` is 1 where it failed.
  * Returns the status, which is PMB_OK also where the request failed; or PMB_BUSY where a transfer is
  * under way, PMB_CLOSED, or PMB_NO_MEMORY, and then nothing was sent. */
 int32_t pmb_bus_request(pmb_bus *bus, const char *line, size_t length, pmb_result *told);
