@@ -13,7 +13,8 @@
  *
  * There are two parts. Up to the line "whole inputs" below, for each function:
  *  - It takes no memory from the heap, and uses less than 2 KB of stack. Of the C library it calls
- *    memcpy and memmove alone. It may be called from a signal handler. (libpmb.a is one object, so
+ *    memcpy and memmove alone, and on microcontrollers memset. It may be called from a signal
+ *    handler. (libpmb.a is one object, so
  *    that linking it asks for what the second part needs too, unless the linker leaves out what
  *    isn't called: with --gc-sections memcpy, memmove and the compiler's own library suffice.)
  *  - A call whose status is not PMB_OK leaves what it would have written as it was. Only `length`,
@@ -226,7 +227,7 @@ enum pmb_reason {
 
 /* Writes the name of a reason, one of enum pmb_reason, as objects of pmb_json have it, and a NUL: as
  * "BadPec" of 3. length is set to how many characters it has, also where they don't fit; 0 where there
- * is no such reason.
+ * is no such reason. (The libraries for microcontrollers lack it.)
  * Returns PMB_NO_NAME, or else PMB_NO_ROOM. */
 int32_t pmb_reason_name(int32_t reason, char *text, size_t room, size_t *length);
 
@@ -478,16 +479,19 @@ int32_t pmb_reader_open(pmb_reader *reader, pmb_profile *profile, const pmb_choi
  * ready after it, each as a line of JSON, or its items. However the text is cut, they are those of
  * pmb_json.
  * Returns PMB_OK; or PMB_ENDED, where reading has ended: at a word that is no token (if the choice is
- * PMB_END), or since the end was given; or PMB_NO_MEMORY: what was ready stays, and no more is read. */
+ * PMB_END), or since the end was given; or PMB_NO_MEMORY: what was ready before stays, nothing of this
+ * piece is ready, and no more is read; or PMB_CLOSED. Whatever it returns, take what is ready. */
 int32_t pmb_reader_feed(pmb_reader *reader, const char *piece, size_t length);
 
-/* The text ends here: its last objects or items are ready after it. Returns as pmb_reader_feed does. */
+/* The text ends here: its last objects or items are ready after it.
+ * Returns PMB_ENDED, as all later calls do; or PMB_NO_MEMORY or PMB_CLOSED. */
 int32_t pmb_reader_end(pmb_reader *reader);
 
 /* Moves what is ready into the room as far as it fits, the oldest first, and returns how many bytes that
  * are. In `told` the status is PMB_OK, or PMB_NO_ROOM where some stay ready; `length` is how many were
- * ready, and `packets` and `refusals` are the counts so far, as those of pmb_json (after PMB_NO_MEMORY
- * they may count packets that are not told). With a room of 0 bytes nothing moves. A reader of items is
+ * ready, and `packets` and `refusals` are the counts of what was read so far, of all devices, as those of
+ * pmb_json, a word that is no token among the refusals (after PMB_NO_MEMORY they may count what isn't
+ * told). With a room of 0 bytes nothing moves. A reader of items is
  * as a closed one: the status is PMB_CLOSED. */
 size_t pmb_reader_take(pmb_reader *reader, char *out, size_t room, pmb_result *told);
 
@@ -616,9 +620,9 @@ int32_t pmb_reader_open_items(pmb_reader *reader, pmb_profile *profile, const pm
                               const uint8_t *devices, size_t devices_length);
 
 /* Moves the oldest item that is ready into the struct, and returns 1; or leaves the struct as it is, and
- * returns 0, where none is ready. In `told` the status is PMB_OK, or PMB_NO_ROOM where more items stay
- * ready; `length` is how many were ready before this one was moved, and `packets` and `refusals` are the
- * counts so far, as those of pmb_json. A reader of objects is as a closed one: the status is
+ * returns 0, where none is ready. In `told` the status is PMB_OK, or PMB_NO_ROOM, which is no fault, where
+ * more items stay ready; `length` is how many were ready before this one was moved, and `packets` and
+ * `refusals` are as pmb_reader_take has them. A reader of objects is as a closed one: the status is
  * PMB_CLOSED. */
 size_t pmb_reader_next(pmb_reader *reader, pmb_item *item, pmb_result *told);
 

@@ -62,6 +62,10 @@ int main(int count, char **words)
         status = pmb_reader_feed(&reader, piece, (size_t)length);
         write_ready(&reader, &told);
     }
+    if (length < 0) {
+        perror("the capture can't be read");
+        return 2;
+    }
     if (status == PMB_OK) status = pmb_reader_end(&reader);
     if (status != PMB_OK && status != PMB_ENDED) {
         if (status == PMB_NO_MEMORY) fprintf(stderr, "no memory\n");

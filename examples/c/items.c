@@ -109,8 +109,8 @@ int main(void)
     print_ready(&reader, &told);
     pmb_reader_close(&reader);
     pmb_profile_close(&profile);
-    if (status != PMB_OK && status != PMB_ENDED) {
-        fprintf(stderr, "no memory\n");
+    if (ferror(stdin) || status != PMB_ENDED) {
+        fprintf(stderr, ferror(stdin) ? "the capture can't be read\n" : "no memory\n");
         return 2;
     }
     return told.refusals != 0;
