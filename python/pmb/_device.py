@@ -277,10 +277,14 @@ class Device:
 
     def _command(self, command: _Key) -> Command:
         if isinstance(command, str):
-            return self._by_name[command]
-        if not isinstance(command, int):
+            found, named = self._by_name.get(command), command
+        elif isinstance(command, int):
+            found, named = self._commands.get(command), "{:02x}".format(command)
+        else:
             raise _wrong_type("command", "a name or a code", command)
-        return self._commands[command]
+        if found is None:
+            raise KeyError("the device at {:02x} has no command {}".format(self._address, named))
+        return found
 
     def _is_read(self, code: int) -> bool:
         return code in self._commands and self._commands[code].read is not None
@@ -474,8 +478,9 @@ def _plain(named: Command, value: Any) -> bytes:
     except TypeError:
         raise _wrong_type("the value of " + named.name, "an int or bytes", value) from None
     except OverflowError:
+        most = 256**named.written - 1
         raise ValueError(
-            "the value of {} has {} bytes, not {}".format(named.name, named.written, value)
+            "the value of {} is from 0 to {}, and not {}".format(named.name, most, value)
         ) from None
 
 
