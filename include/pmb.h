@@ -619,11 +619,11 @@ typedef struct pmb_item {
 int32_t pmb_reader_open_items(pmb_reader *reader, pmb_profile *profile, const pmb_choice *choice,
                               const uint8_t *devices, size_t devices_length);
 
-/* Moves the oldest item that is ready into the struct, and returns 1; or leaves the struct as it is, and
- * returns 0, where none is ready. In `told` the status is PMB_OK, or PMB_NO_ROOM, which is no fault, where
- * more items stay ready; `length` is how many were ready before this one was moved, and `packets` and
- * `refusals` are as pmb_reader_take has them. A reader of objects is as a closed one: the status is
- * PMB_CLOSED. */
+/* Moves the oldest item that is ready into the struct. (pmb_command_name, pmb_bit_name and pmb_reason_name
+ * have names for its numbers.) In `told` the status is PMB_OK, or PMB_NO_ROOM, which is no fault, where more
+ * items stay ready; `length` is how many were ready before; and `packets` and `refusals` are as
+ * pmb_reader_take has them. A reader of objects is as a closed one: the status is PMB_CLOSED.
+ * Returns 1; or 0 where none is ready, and then the struct stays as it is. */
 size_t pmb_reader_next(pmb_reader *reader, pmb_item *item, pmb_result *told);
 
 /* A bus of simulated devices: those of a profile, which keep what is written to them from one call to the
