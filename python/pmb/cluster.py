@@ -652,15 +652,29 @@ def _parser() -> argparse.ArgumentParser:
     profile = parser.add_mutually_exclusive_group(required=True)
     profile.add_argument("-p", "--profile", metavar="FILE", help="the profile, a file here")
     profile.add_argument("--sample", action="store_true", help="take the sample profile")
-    add("--late", action="store_true", help="each capture begins in the middle")
+    add("--late", action="store_true", help="of stats and json: each capture begins in the middle")
     add(
         "--fixed-vout-mode",
         action="store_true",
-        help="VOUT_MODE begins as the profile says in each piece, and only PAGE is unknown",
+        help="with --late: VOUT_MODE begins as the profile says, and only PAGE is unknown",
     )
-    add("--keep-going", action="store_true", help="go on in the line after a word that is no token")
-    add("--digits", metavar="N", help="the most digits after the point of a number, 0 to 12")
-    add("--device", action="append", default=[], metavar="HH", help="only this device; repeatable")
+    add(
+        "--keep-going",
+        action="store_true",
+        help="of stats and json: go on in the line after a word that is no token",
+    )
+    add(
+        "--digits",
+        metavar="N",
+        help="of stats and json: the most digits after the point of a number, 0 to 12",
+    )
+    add(
+        "--device",
+        action="append",
+        default=[],
+        metavar="HH",
+        help="of stats and json: only this device; repeatable",
+    )
     add("--json", action="store_true", help="of stats: write objects instead of the table")
     add("--fail-on", metavar="WHAT", help="of stats: what makes the exit status 1")
     add(
@@ -687,6 +701,14 @@ def _asked(words: Optional[Sequence[str]]) -> _Asked:
     it = parser.parse_args(words)
     if it.retries < 0:
         parser.error("argument --retries: a number from 0 on")
+    facts = {"--late": it.late, "--fixed-vout-mode": it.fixed_vout_mode}
+    facts.update({"--keep-going": it.keep_going, "--digits": it.digits is not None})
+    facts.update({"--device": bool(it.device)})
+    sums = {"--json": it.json, "--fail-on": it.fail_on is not None}
+    for flags, tasks in ((facts, ("stats", "json")), (sums, ("stats",))):
+        for flag, is_given in flags.items():
+            if is_given and it.task not in tasks:
+                parser.error("argument {}: it is of {} alone".format(flag, " and ".join(tasks)))
     try:
         program = _worker.program()
     except OSError as error:
@@ -712,8 +734,16 @@ def _asked(words: Optional[Sequence[str]]) -> _Asked:
     own += ["--sample"] if profile is None else []
     ran = subprocess.run([program, it.task, *own], input=given, capture_output=True, check=False)
     if ran.returncode not in (_DONE, _FOUND):
-        sys.stderr.write(ran.stderr.decode("utf-8", "replace"))
-        sys.exit(ran.returncode)
+        said = ran.stderr.decode("utf-8", "replace")
+        if profile is not None and said.startswith("pmb: profile: "):
+            # (this one says more of it)
+            ran = subprocess.run(
+                [program, "profile"], input=profile, capture_output=True, check=False
+            )
+            said = ran.stderr.decode("utf-8", "replace") or said
+            said = said.replace("pmb: profile: ", "pmb.cluster: {}: ".format(_shown(it.profile)), 1)
+        sys.stderr.write(said)
+        sys.exit(ran.returncode or _WRONG)
     return _Asked(
         it.task,
         it.scheduler,
