@@ -10,6 +10,14 @@ chmod +x "$uml"
 cuse=$temporary/cuse/pmb-i2cd
 sample=$temporary/cuse/sample.toml
 
+# (before all else: whether a program can be started there)
+"$uml" true >"$said" 2>&1
+if [ $? = 77 ]; then
+    : >"$said"
+    missing 'a processor on which user-mode-linux starts programs' 'the device'
+    return
+fi
+: >"$said"
 part 'calls over CUSE' "$uml" "$cuse" "$sample" --cuse i2c-3 --run -- "$temporary/cuse/calls" /dev/i2c-3
 "$uml" "$cuse" "$sample" --log "$temporary/cuse/random.log" --cuse i2c-3 --run -- \
     "$temporary/cuse/random_calls" /dev/i2c-3 3000 1 >"$temporary/random_over_cuse" 2>"$said"

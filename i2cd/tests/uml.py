@@ -5,7 +5,8 @@
 
 Its root is that of this machine, which is only read; DIRECTORY can be written. What the command
 writes comes after it has ended, and its exit status is that of this program. 77 says that
-user-mode-linux, or a module of it, is missing.
+user-mode-linux, or a module of it, is missing, or that it starts no program on this processor: of
+some it can't restore the registers for floating point, as of those with more of them than it knows.
 """
 
 import ctypes
@@ -51,6 +52,9 @@ def outside(directory, words):
         with open(status) as file:
             return int(file.read())
     except (FileNotFoundError, ValueError):
+        if b"ptrace set fp regs failed" in told:
+            print("user-mode-linux starts no program on this processor", file=sys.stderr)
+            return 77
         sys.stderr.buffer.write(told)
         return 1
 
