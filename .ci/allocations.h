@@ -19,9 +19,13 @@ void __wrap_free(void *old);
 }
 #endif
 
-static int refuses(void)
+/* How many bytes they asked for. */
+static size_t asked_for;
+
+static int refuses(size_t size)
 {
     allocations++;
+    asked_for += size;
     return allocations == refused || (later && refused != 0 && allocations > refused);
 }
 
@@ -29,7 +33,7 @@ void *__wrap_malloc(size_t size)
 {
     void *block;
     if (!counting) return __real_malloc(size);
-    block = refuses() ? NULL : __real_malloc(size);
+    block = refuses(size) ? NULL : __real_malloc(size);
     live += block != NULL;
     return block;
 }
@@ -38,7 +42,7 @@ void *__wrap_realloc(void *old, size_t size)
 {
     void *block;
     if (!counting) return __real_realloc(old, size);
-    block = refuses() ? NULL : __real_realloc(old, size);
+    block = refuses(size) ? NULL : __real_realloc(old, size);
     live += block != NULL && old == NULL;
     return block;
 }

@@ -1,7 +1,8 @@
 /* Calls the functions of pmb.h over a bus of simulated devices: messages one by one and as transfers,
  * requests, and what was logged of them; closed handles, those of another kind, and threads; and, with
- * REFUSES defined and the linker's --wrap of malloc, realloc and free, with each allocation refused.
- * What is expected is worked out by docs/devices.md and docs/text.md. C99 and C++. */
+ * REFUSES defined and the linker's --wrap of malloc, realloc and free, with each allocation refused. Then it
+ * also counts them, and writes the figures of memory that docs/devices.md has. What is expected is worked out
+ * by docs/devices.md and docs/text.md. C99 and C++. */
 #include <pthread.h>
 #include <stdio.h>
 #include <stdlib.h>
@@ -580,6 +581,112 @@ static int refusals(void)
 }
 #endif
 
+/* ---- how much memory is taken */
+
+#ifdef REFUSES
+/* A profile of so many devices with so many pages each. A device has so many commands with a register for all
+ * pages, and one that has a register for each. */
+static size_t profile_of(char *text, int devices, int pages, int commands)
+{
+    size_t size = (size_t)sprintf(text, "device = [");
+    int i, k;
+    for (i = 0; i < devices; i++) {
+        size += (size_t)sprintf(text + size, "{ address = %d, pages = %d, pec = 'off', ", 16 + i, pages);
+        size += (size_t)sprintf(text + size, "standard = false, command = [");
+        for (k = 0; k < commands; k++)
+            size += (size_t)sprintf(text + size, "{ code = %d, read = 'one' },", 208 + k);
+        size += (size_t)sprintf(text + size, "{ code = 207, read = 'two', paged = true }] },");
+    }
+    return size + (size_t)sprintf(text + size, "]\n");
+}
+
+/* Calls of each kind take memory for text that waits alone: none once there was as much of it before. */
+static int calls_take_none(pmb_bus *bus)
+{
+    static const char *const lines[] = {
+        "read 10 cf", "get 10 cf", "set 10 cf 1", "write 10 cf 01 02", "call 10 cf 01 02", "hm",
+    };
+    char out[MOST];
+    pmb_result told;
+    int turn;
+    for (turn = 0; turn < 3; turn++) {
+        uint8_t bytes[40] = {207};
+        size_t i, length = 1;
+        allocations = 0;
+        EXPECT(pmb_bus_message(bus, 16, PMB_WRITE, bytes, 1, &length, 0) != NO_MEMORY);
+        length = 2;
+        EXPECT(pmb_bus_message(bus, 16, PMB_READ, bytes, 2, &length, 1) != NO_MEMORY);
+        length = 0;
+        EXPECT(pmb_bus_message(bus, 16, PMB_READ_BLOCK, bytes, 34, &length, 1) != NO_MEMORY);
+        for (i = 0; i < sizeof lines / sizeof *lines; i++)
+            EXPECT(pmb_bus_request(bus, lines[i], strlen(lines[i]), &told) == PMB_OK);
+        EXPECT(pmb_bus_events(bus, out, MOST, &told) > 0 && told.status == PMB_OK);
+        EXPECT(turn == 0 || allocations == 0);
+    }
+    return 0;
+}
+
+/* Opens a bus: how many allocations that takes, and how many bytes. */
+static int opened(const char *text, size_t size, long *count, size_t *bytes)
+{
+    pmb_profile profile = {0};
+    pmb_bus bus = {0};
+    pmb_result told;
+    EXPECT(pmb_profile_open(&profile, text, size, &told) == PMB_OK);
+    allocations = 0, asked_for = 0, counting = 1;
+    EXPECT(pmb_bus_open(&bus, &profile) == PMB_OK);
+    *count = allocations, *bytes = asked_for;
+    if (calls_take_none(&bus)) return 1;
+    pmb_bus_close(&bus);
+    counting = 0;
+    pmb_profile_close(&profile);
+    return 0;
+}
+
+static int opened_with(int devices, int pages, int commands, long *count, size_t *bytes)
+{
+    static char text[1 << 16];
+    return opened(text, profile_of(text, devices, pages, commands), count, bytes);
+}
+
+/* How many bytes a bus of 64 devices with all standard commands takes. */
+static int standard(int pages, size_t *bytes)
+{
+    static char text[1 << 16];
+    size_t size = 0;
+    long count;
+    int i;
+    for (i = 0; i < 64; i++)
+        size += (size_t)sprintf(text + size, "[[device]]\naddress = %d\npec = 'off'\npages = %d\n", 16 + i,
+                                pages);
+    return opened(text, size, &count, bytes);
+}
+
+/* A bus takes memory once for the registers of each device and once for the devices, beside what one without
+ * devices takes; and each register takes the same. */
+static int memory(void)
+{
+    static const int sizes[][2] = {{1, 1}, {1, 2}, {1, 32}, {2, 1}, {3, 5}, {5, 3}, {64, 1}, {64, 32}};
+    long none, count, more_count;
+    size_t bytes, more, each = 0, i;
+    if (opened_with(0, 1, 0, &none, &bytes)) return 1;
+    for (i = 0; i < sizeof sizes / sizeof *sizes; i++) {
+        const int devices = sizes[i][0], pages = sizes[i][1];
+        if (opened_with(devices, pages, 1, &count, &bytes)) return 1;
+        EXPECT(count == none + devices + 1);
+        if (opened_with(devices, pages, 3, &more_count, &more)) return 1;
+        if (i == 0) each = (more - bytes) / 2;
+        EXPECT(more_count == count && more == bytes + 2 * each * (size_t)devices);
+        if (pages == 1) continue;
+        if (opened_with(devices, pages - 1, 3, &more_count, &bytes)) return 1;
+        EXPECT(more_count == count && more == bytes + each * (size_t)devices);
+    }
+    if (standard(1, &bytes) || standard(32, &more)) return 1;
+    printf("%zu bytes, %zu MB, %zu MB\n", each, (bytes + 500000) / 1000000, (more + 500000) / 1000000);
+    return 0;
+}
+#endif
+
 /* ---- threads */
 
 static void *one_thread(void *given)
@@ -628,7 +735,7 @@ int main(void)
         closed() || threads())
         return 1;
 #ifdef REFUSES
-    if (refusals()) return 1;
+    if (refusals() || memory()) return 1;
 #endif
     (void)counting, (void)later, (void)allocations, (void)live, (void)refused;
     return 0;

@@ -1,6 +1,8 @@
 """Refused memory: each allocation of a run is refused in turn."""
 
 import collections
+import os
+import re
 
 from inputs import (BAD_WORDS, BEHIND_A_PROFILE, CONVERSIONS, DESCRIPTIONS, FAULTY, FRONT, HELP, IMPORTS,
                     UNDER_SAMPLE, WITH_A_PROFILE)
@@ -78,8 +80,16 @@ def refuse_memory(program, report):
             if not later:
                 figures.append(f"    {ordinary.counts.allocations} allocations, {without} of them "
                                f"dispensable: {describe(case)}")
+    report.same("docs/promises.md, runs with refused memory", runs_of_page(), [f"{len(figures):,}"])
     return "\n".join([f"refused memory: {len(figures)} runs, {refusals} allocations refused, each "
                       "alone and with all later ones", *figures])
+
+
+def runs_of_page():
+    """How many runs docs/promises.md says that there are, as it has the number."""
+    root = os.path.dirname(os.path.dirname(os.path.dirname(os.path.abspath(__file__))))
+    with open(os.path.join(root, "docs", "promises.md"), encoding="utf-8") as page:
+        return re.findall(r"each allocation of ([0-9,]+) runs in turn", page.read())
 
 
 def describe(case):

@@ -1,7 +1,8 @@
--- What a signal does on a bus: for `Bus::signal`. The profile stays, the answer is that of the
--- devices (`Loud`), and the devices stand where the signal leads them (`Behind`); at STOP each
+-- What a signal does on a bus: for `Bus::signal`. The profile and the memory stay, the answer is that
+-- of the devices (`Loud`), and the devices stand where the signal leads them (`Behind`); at STOP each
 -- becomes what a transaction makes of it, if its packet was recorded.
-use Rattle.std.proofs.Common.{◌≡◌, ◌≢◌, List, [], ◌∷◌, ◌++◌, map, nat_eq, refl, sym, subst, ◌∙◌}
+use Rattle.std.proofs.Common.{◌≡◌, ◌≢◌, List, [], ◌∷◌, ◌++◌, length, map, nat_eq, refl, sym, subst, ◌∙◌}
+use Rattle.std.specs.Prelude.{vec_capacity}
 use Rattle.std.specs.List.{Contains, IsDistinct}
 use Rattle.pmb_bus.specs.declared.event.Event.TheVariants as wire
 use Rattle.pmb_command.specs.Bus.{IsBus}
@@ -33,7 +34,8 @@ AreApplied = (profile : List DeviceParts) (members : List InState) (history : Li
     → Contains members member → Ends member.device (legs_after Outside history) member.state after
     → after ≡ apply member.device t member.state
 
-module _ (bus new : Bus) (same : new.profile.now ≡ bus.profile.now) (standing : BusStanding)
+module _ (bus new : Bus) (same : new.profile.now ≡ bus.profile.now)
+    (exact : vec_capacity new.devices ≡ length new.devices.items) (standing : BusStanding)
     (at : BusStandsAt bus standing) where
   own_addresses : IsDistinct nat_eq (map (λ d. d.address) (map (λ m. m.device) standing.members))
   own_addresses = subst (λ (ds : List DeviceParts). IsDistinct nat_eq (map (λ d. d.address) ds))
@@ -60,6 +62,7 @@ module _ (bus new : Bus) (same : new.profile.now ≡ bus.profile.now) (standing 
   goes_on signal result other handed =
       let next : AnsweredSignal = record { signal = signal; result = result } in
       record {
+        exact = exact;
         accepted = subst IsBus (sym same) at.accepted;
         profile = at.profile ∙ sym same;
         runs = runs_so standing.past standing.members at.runs;
@@ -83,6 +86,7 @@ module _ (bus new : Bus) (same : new.profile.now ≡ bus.profile.now) (standing 
         members = ended.news;
         ends = ended.ends;
         stands = record {
+          exact = exact;
           accepted = subst IsBus (sym same) at.accepted;
           profile = ended.same ∙ at.profile ∙ sym same;
           runs = runs_so (standing.past ++ standing.history ∷ []) ended.news

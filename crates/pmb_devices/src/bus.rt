@@ -5,7 +5,7 @@
 //!
 //! Its rows: `tests_devices`, `src/devices/sessions.rt`, `calls.rt`, `compared.rt`.
 
-ghost use Rattle.std.specs.Prelude.{◌≡◌, ℕ, ◌+◌, ◌<◌, List, [], IfOk, MatchOption, OnOk, length, take};
+ghost use Rattle.std.specs.Prelude.{◌≡◌, ℕ, ◌+◌, ◌<◌, List, [], IfOk, MatchOption, OnOk, length, take, vec_capacity};
 ghost use Rattle.pmb_registers.specs.State.{InState};
 ghost use Rattle.pmb_device.specs.Legs.{Legs, Outside};
 ghost use Rattle.pmb_devices.specs.Bus.{recorded};
@@ -50,26 +50,30 @@ fn hand_on(devices: &mut [Device<'_>], signal: HostSignal) -> DeviceSignal
     answer
 }
 
-/// Adds the device at a place of the profile.
+/// Adds the device at a place of the profile. There is room for it.
 fn add_device<'p>(
     devices: &mut Vec<Device<'p>>,
     alloc: Global,
     profile: &'p Profile,
     i: usize,
 ) -> Result<(), AllocError>
-    requires { i < length profile.now }
-    ensures { AllStand Outside devices.old.items (first_members (take i profile.now))
+    requires within { i < length profile.now }
+    requires room { length devices.old.items < vec_capacity devices.old }
+    ensures stand { AllStand Outside devices.old.items (first_members (take i profile.now))
         → OnOk result (AllStand Outside devices.new.items (first_members (take (i + 1) profile.now))) }
+    ensures one { OnOk result (length devices.new.items ≡ length devices.old.items + 1) }
+    ensures room { OnOk result (vec_capacity devices.new ≡ vec_capacity devices.old) }
 {
     if let Some(device) = profile.device_at(i) {
-        devices.push(Device::new(alloc, device)?)?;
+        devices.push_reserved(Device::new(alloc, device)?);
     }
     Ok(())
 }
 
 impl<'p> Bus<'p> {
     /// A bus of the devices of a profile, each in its first state. It takes all memory that the
-    /// devices will ever need; where an allocation is refused nothing was made.
+    /// devices will ever need, once for just as many as there are and once for the registers of each;
+    /// where an allocation is refused nothing was made.
     pub fn new(alloc: Global, profile: &'p Profile) -> Result<Self, AllocError>
         ensures { IfOk result (λ bus. BusStandsAt bus (record { past = []; members = first_members profile.now; history = [] })) }
     {

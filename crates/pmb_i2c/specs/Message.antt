@@ -2,7 +2,8 @@
 --
 -- START, the address with its direction, and bytes: those that are written up to the first without ACK,
 -- those that are read with ACK of the host but for the last (I2C-bus specification UM10204 section
--- 3.1). STOP comes after the last message of a transfer, and after a byte or an address without ACK.
+-- 3.1). STOP comes after the last message of a transfer, and after a written byte or an address
+-- without ACK.
 use Rattle.std.specs.Prelude.{◌≡◌, ◌≢◌, ◌⊎◌, ℕ, ◌+◌, ◌<◌, ◌≤◌, Bool, true, false, Result, Ok, Err, List, [], ◌∷◌}
 use Rattle.std.specs.Prelude.{◌++◌, is_err, length, map, take}
 use Rattle.pmb_device.specs.declared.signal.HostSignal.{HostSignal}

@@ -4,3 +4,4 @@ mod Held
 mod Places
 mod Beginning
 mod StatusCodes
+mod Count

@@ -11,7 +11,7 @@ use Rattle.std.proofs.lemmas.List.Folds.{find-append}
 use Rattle.std.proofs.lemmas.Bool.{ne_eqb}
 use Rattle.std.proofs.lemmas.List.{map-append, take-append-drop, take-map, drop-map, length-map, drop-drop}
 use Rattle.std.proofs.lemmas.List.{with_items_is}
-use Rattle.std.specs.Vec.{with_items}
+use Rattle.std.specs.Vec.{vec_capacity, with_items}
 use Rattle.std.specs.Global.{Vec}
 use borrow.Rule.Slice.PartMut.{put_mid}
 use Rattle.pmb_registers.specs.declared.register.Register.{Register}
@@ -62,6 +62,11 @@ module _ (selected : ℕ) (codes : ℕ → Bool) (change : List ℕ → List ℕ
       ap (map register_data) written ∙ done ∙ ap
       (λ (items : List Register). changed selected codes change (map register_data items)) read in
       subst (ArePlaces places) (sym same) (places_after places (map register_data v.items) are)
+
+-- and there is memory for as many registers as before
+pub exact_written : (v : Vec Register) (after : List Register) → vec_capacity v ≡ length v.items
+    → vec_capacity (with_items v after) ≡ length (with_items v after).items
+exact_written v after exact = exact ∙ sym v.ok.0 ∙ (with_items v after).ok.0
 
 -- ---- parts of a list
 

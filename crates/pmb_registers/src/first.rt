@@ -2,10 +2,11 @@
 //!
 //! Its rows: `tests_devices`, `src/registers/written.rt`; `tests/rows/profile_text.txt`.
 
-ghost use Rattle.std.specs.Prelude.{◌≡◌, ◌+◌, ◌<◌, ◌≤◌, [], ◌∷◌, ◌++◌, OnOk, None, Some, length, map, take};
+ghost use Rattle.std.specs.Prelude.{◌≡◌, ◌+◌, ◌<◌, ◌≤◌, [], ◌∷◌, ◌++◌, None, Some, length, map, take, vec_capacity};
 ghost use Rattle.std.specs.List.{flat_map, range_with_len};
+ghost use Rattle.pmb_command.specs.Entry.{entry_parts};
 ghost use Rattle.pmb_command.specs.Parts.{CommandParts, command_with};
-ghost use Rattle.pmb_registers.specs.State.{first_bytes, first_bytes_at, first_mode, first_page, registers_of, zeros};
+ghost use Rattle.pmb_registers.specs.State.{first_bytes, first_bytes_at, first_mode, first_page, first_state, registers_of, zeros};
 ghost use Rattle.pmb_registers.specs.machine.Registers.{register_data};
 ghost use Rattle.pmb_registers.specs.machine.Places.{ArePlaces, NoneHas, registers_of_some};
 
@@ -16,7 +17,6 @@ use arrayvec::ArrayVec;
 use pmb_command::{Entry, Form};
 use pmb_table::DeviceProfile;
 use pmb_table::laws::accepted_device;
-use std::alloc::AllocError;
 
 /// The code of VOUT_MODE.
 const VOUT_MODE: u8 = 0x20;
@@ -91,53 +91,51 @@ fn push_register(
     code: u8,
     form: Form,
     page: Option<u8>,
-) -> Result<(), AllocError>
-    ensures { (command : CommandParts) → command_with code device.now.commands ≡ Some command
-        → OnOk result (map register_data registers.new.items ≡ map register_data registers.old.items
-        ++ record { code = code; page = page; bytes = first_bytes device.now (first_page page) command form } ∷ []) }
+)
+    requires { length registers.old.items < vec_capacity registers.old }
+    ensures added { (command : CommandParts) → command_with code device.now.commands ≡ Some command
+        → map register_data registers.new.items ≡ map register_data registers.old.items
+        ++ record { code = code; page = page; bytes = first_bytes device.now (first_page page) command form } ∷ [] }
+    ensures one { length registers.new.items ≡ length registers.old.items + 1 }
+    ensures room { vec_capacity registers.new ≡ vec_capacity registers.old }
 {
     let bytes = first_bytes(device, page.unwrap_or(0), code, form);
-    registers.push(register_of(code, page, bytes.as_slice()))?;
-    Ok(())
+    registers.push_reserved(register_of(code, page, bytes.as_slice()));
 }
 
 /// Adds a register for each page.
-fn push_pages(
-    registers: &mut Vec<Register>,
-    device: &DeviceProfile,
-    code: u8,
-    form: Form,
-) -> Result<(), AllocError>
-    ensures { (command : CommandParts) → command_with code device.now.commands ≡ Some command
-        → OnOk result (map register_data registers.new.items ≡ map register_data registers.old.items
+fn push_pages(registers: &mut Vec<Register>, device: &DeviceProfile, code: u8, form: Form)
+    requires { length registers.old.items + device.now.pages ≤ vec_capacity registers.old }
+    ensures added { (command : CommandParts) → command_with code device.now.commands ≡ Some command
+        → map register_data registers.new.items ≡ map register_data registers.old.items
         ++ map (λ page. record { code = code; page = page; bytes = first_bytes device.now (first_page page) command form })
-        (map Some (range_with_len 0 device.now.pages))) }
+        (map Some (range_with_len 0 device.now.pages)) }
+    ensures room { vec_capacity registers.new ≡ vec_capacity registers.old }
 {
     for page in 0..device.pages() {
-        push_register(registers, device, code, form, Some(page))?;
+        push_register(registers, device, code, form, Some(page));
     }
-    Ok(())
 }
 
 /// Adds the registers of a code.
-fn push_registers(
-    registers: &mut Vec<Register>,
-    device: &DeviceProfile,
-    code: u8,
-) -> Result<(), AllocError>
-    ensures { OnOk result (map register_data registers.new.items ≡ map register_data registers.old.items
-        ++ registers_of_some device.now (command_with code device.now.commands)) }
+fn push_registers(registers: &mut Vec<Register>, device: &DeviceProfile, code: u8)
+    requires { length registers.old.items
+        + length (registers_of_some device.now (command_with code device.now.commands)) ≤ vec_capacity registers.old }
+    ensures added { map register_data registers.new.items ≡ map register_data registers.old.items
+        ++ registers_of_some device.now (command_with code device.now.commands) }
+    ensures room { vec_capacity registers.new ≡ vec_capacity registers.old }
 {
     let Some(entry) = device.entry(code) else {
-        return Ok(());
+        return;
     };
     let Some(form) = register_form(entry.shape) else {
-        return Ok(());
+        return;
     };
     if entry.paged {
-        return push_pages(registers, device, code, form);
+        push_pages(registers, device, code, form);
+    } else {
+        push_register(registers, device, code, form, None);
     }
-    push_register(registers, device, code, form, None)
 }
 
 /// Adds the registers of a code that has none yet, and keeps their place.
@@ -146,39 +144,43 @@ fn add_registers(
     places: &mut [RegisterRange; 256],
     device: &DeviceProfile,
     code: u8,
-) -> Result<(), AllocError>
+)
     requires placed { ArePlaces places.old (map register_data registers.old.items) }
     requires none_yet { NoneHas code (map register_data registers.old.items) }
-    ensures added { OnOk result (map register_data registers.new.items ≡ map register_data registers.old.items
-        ++ registers_of_some device.now (command_with code device.now.commands)) }
-    ensures placed { OnOk result (ArePlaces places.new (map register_data registers.new.items)) }
+    requires room { length registers.old.items
+        + length (registers_of_some device.now (command_with code device.now.commands)) ≤ vec_capacity registers.old }
+    ensures added { map register_data registers.new.items ≡ map register_data registers.old.items
+        ++ registers_of_some device.now (command_with code device.now.commands) }
+    ensures placed { ArePlaces places.new (map register_data registers.new.items) }
+    ensures room { vec_capacity registers.new ≡ vec_capacity registers.old }
 {
     let start = registers.len();
-    push_registers(registers, device, code)?;
+    push_registers(registers, device, code);
     places[code as usize] = RegisterRange {
         start,
         end: registers.len(),
     };
-    Ok(())
 }
 
-/// Adds the registers of the command at an index, after those of the commands before it.
+/// Adds the registers of the command at an index, after those of the commands before it. There is
+/// room for them.
 pub(crate) fn add_command(
     registers: &mut Vec<Register>,
     places: &mut [RegisterRange; 256],
     device: &DeviceProfile,
     index: usize,
-) -> Result<(), AllocError>
+)
     requires within { index < length device.now.commands }
     requires before { map register_data registers.old.items ≡ flat_map (registers_of device.now) (take index device.now.commands) }
     requires placed { ArePlaces places.old (map register_data registers.old.items) }
-    ensures added { OnOk result (map register_data registers.new.items ≡ flat_map (registers_of device.now) (take (index + 1) device.now.commands)) }
-    ensures placed { OnOk result (ArePlaces places.new (map register_data registers.new.items)) }
+    requires room { length (first_state device.now).registers ≤ vec_capacity registers.old }
+    ensures added { map register_data registers.new.items ≡ flat_map (registers_of device.now) (take (index + 1) device.now.commands) }
+    ensures placed { ArePlaces places.new (map register_data registers.new.items) }
+    ensures room { vec_capacity registers.new ≡ vec_capacity registers.old }
 {
     accepted_device(device);
-    match device.entry_at(index) {
-        Some(entry) => add_registers(registers, places, device, entry.code),
-        None => Ok(()),
+    if let Some(entry) = device.entry_at(index) {
+        add_registers(registers, places, device, entry.code);
     }
 }
 
@@ -190,23 +192,29 @@ pub(crate) fn no_places() -> [RegisterRange; 256]
 }
 
 /// How many registers the device has.
-pub(crate) fn count_registers(device: &DeviceProfile) -> usize {
+pub(crate) fn count_registers(device: &DeviceProfile) -> usize
+    ensures { result ≡ length (first_state device.now).registers }
+{
+    accepted_device(device);
     let mut count: usize = 0;
     for i in 0..device.len() {
         if let Some(entry) = device.entry_at(i) {
-            count = count.saturating_add(count_of(entry, device.pages()));
+            count += count_of(device, entry);
         }
     }
     count
 }
 
-/// How many registers a command has.
-fn count_of(entry: &Entry, pages: u8) -> usize {
-    if register_form(entry.shape).is_none() {
-        0
-    } else if entry.paged {
-        pages as usize
-    } else {
-        1
+/// How many registers a command of the device has.
+fn count_of(device: &DeviceProfile, entry: &Entry) -> usize
+    ensures { (command : CommandParts) → command.entry ≡ entry_parts entry.now
+        → result ≡ length (registers_of device.now command) }
+{
+    let Some(_form) = register_form(entry.shape) else {
+        return 0;
+    };
+    if entry.paged {
+        return usize::from(device.pages());
     }
+    1
 }

@@ -73,14 +73,14 @@ impl<'p> Model for Registers<'p> {
 
 impl<'p> Registers<'p> {
     /// The registers of a device as they are at first, on page 0. All memory is taken here, at
-    /// once; an `Err` says that it was refused.
+    /// once, for just as many registers as the device has; an `Err` says that it was refused.
     pub fn new(alloc: Global, device: &'p DeviceProfile) -> Result<Self, AllocError>
         ensures { IfOk result (λ r. r ≡ record { device = device.now; state = first_state device.now }) }
     {
         let mut registers = Vec::with_capacity(alloc, count_registers(device))?;
         let mut places = no_places();
         for i in 0..device.len() {
-            add_command(&mut registers, &mut places, device, i)?;
+            add_command(&mut registers, &mut places, device, i);
         }
         Ok(Registers {
             device,

@@ -1,6 +1,6 @@
 //! Tests of simulated devices and their bus: sessions told by hand, the programs of
 //! `docs/devices.md`, and random signals beside devices by the rules in words and beside what a
-//! reader reads of the events.
+//! reader reads of the events; and buses of each size.
 
 mod bench;
 mod calls;
@@ -9,3 +9,4 @@ mod memory;
 mod random;
 mod sessions;
 mod signals;
+mod sizes;

@@ -1,6 +1,7 @@
 //! A session of a bus, call by call, by the rules of `docs/devices.md`, `docs/text.md` and `docs/packets.md`.
 //! `refused_memory_loses_nothing` passes whichever one allocation is refused:
-//! `rt try --test --fail-alloc N -- refused_memory` refuses the Nth.
+//! `rt try --test --fail-alloc N -- refused_memory` refuses the Nth. With ample memory no call lacks any,
+//! whatever the number of devices and of their pages.
 
 use crate::compare::same;
 use BusStatus::{BadAddress, BadCount, BadFlags, BadLength, Busy, Closed, Done, NoDevice, Refused};
@@ -14,6 +15,7 @@ use pmb_bus_session::{
 use pmb_io::Tally;
 use pmb_table::{BusProfile, SAMPLE};
 use std::alloc::{AllocError, Global};
+use std::process::Abort;
 use std::sync::Arc;
 use std::test::Fail;
 
@@ -249,4 +251,78 @@ fn refused_memory_loses_nothing(rt: HostRuntime) -> Result<(), Fail> {
     let text = "S b0 A 03 A P\nS b0 A 88 A S b1 A 00 A d3 N P\n# 00 d3\n";
     same(&rt, "text", has_text(&mut session, text), true);
     Ok(())
+}
+
+/// What a device has in its profile besides its address and its pages.
+const COMMANDS: &str =
+    "pec = \"off\", standard = false, command = [{ name = \"PAGE\" }, { name = \"VOUT_MODE\" }, { name = \"VOUT_COMMAND\" }, { name = \"COEFFICIENTS\" }, { name = \"READ_VIN\" }, { name = \"MFR_ID\" }]";
+
+/// A call of each kind: whatever the devices answer, each has its memory.
+#[rattlefmt::skip]
+static CALLS: [Step; 16] = [
+    Open,
+    Send(0x10, WRITE, 2, Stop),
+    Send(0x10, WRITE, 1, RepeatedStart),
+    Send(0x10, READ, 2, Stop),
+    Send(0x10, WRITE, 1, RepeatedStart),
+    Send(0x10, BLOCK, 1, Stop),
+    Send(0x10, READ, 0, Stop),
+    Send(0x10, WRITE, 64, Stop),
+    Send(0x10, READ, 64, Stop),
+    Request("write 10 99 41 + 11 99 42"),
+    Request("read 10 99"),
+    Request("call 10 30 21 01"),
+    Request("set 10 21 1"),
+    Request("get 10 21"),
+    Request("get"),
+    Open,
+];
+
+/// The calls. A call keeps the proof of a loop over them from carrying them.
+fn calls() -> &'static [Step] {
+    &CALLS
+}
+
+/// A profile of so many devices, from 10h on, each with so many pages.
+fn profile_text(alloc: Global, devices: u8, pages: u8) -> Result<String, AllocError> {
+    let mut text = String::new(alloc);
+    text.push_str("device = [")?;
+    for i in 0..devices {
+        let address = u16::from(i) + 0x10;
+        let numbers = format!(in alloc; "{{ address = {address}, pages = {pages}, ")?;
+        text.push_str(numbers.as_str())?;
+        text.push_str(COMMANDS)?;
+        text.push_str(" },")?;
+    }
+    text.push_str("]\n")?;
+    Ok(text)
+}
+
+/// Makes each call, three times over, with nothing taken of the log. None may lack memory, find the
+/// devices not made, or a transfer under way.
+fn none_lacks_memory(rt: &impl Abort, alloc: Global, devices: u8, pages: u8) -> Result<(), Fail> {
+    let text = profile_text(alloc, devices, pages)?;
+    let bus = Arc::new(alloc, BusProfile::from_toml(alloc, text.as_bytes())?)?;
+    let ground = BusGround { bus, alloc };
+    let mut session = BusSession::on(&ground);
+    let mut room = [0; 64];
+    for _ in 0..3 {
+        for (number, step) in calls().iter().enumerate() {
+            let status = call(&mut session, *step, &mut room).status;
+            let lacks = matches!(status, BusStatus::Memory | Closed | Busy);
+            same(rt, (devices, pages, number, status), lacks, false);
+        }
+    }
+    Ok(())
+}
+
+#[test]
+fn no_call_lacks_ample_memory(rt: HostRuntime) -> Result<(), Fail> {
+    for devices in 0..=64 {
+        none_lacks_memory(&rt, rt.alloc(), devices, 1)?;
+    }
+    for pages in 1..=32 {
+        none_lacks_memory(&rt, rt.alloc(), 1, pages)?;
+    }
+    none_lacks_memory(&rt, rt.alloc(), 64, 32)
 }

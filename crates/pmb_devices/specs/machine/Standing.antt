@@ -1,5 +1,5 @@
 -- What the devices of a bus say of where it stands.
-use Rattle.std.specs.Prelude.{◌≡◌, List, [], ◌∷◌, map}
+use Rattle.std.specs.Prelude.{◌≡◌, List, [], ◌∷◌, length, map, vec_capacity}
 use Rattle.pmb_command.specs.Bus.{IsBus}
 use Rattle.pmb_registers.specs.State.{InState}
 use Rattle.pmb_device.specs.declared.device.Device.{Device}
@@ -25,8 +25,9 @@ AllStand legs (d ∷ devices) (member ∷ members) =
     DeviceStandsAt d (record { device = member.device; state = member.state; legs = legs })
     × AllStand legs devices members
 
--- A bus stands there.
+-- A bus stands there. It has memory for just as many devices as there are.
 pub record BusStandsAt (bus : Bus) (standing : BusStanding) : Type 0 where
+  pub exact : vec_capacity bus.devices ≡ length bus.devices.items
   pub accepted : IsBus bus.profile.now
   pub profile : map (λ member. member.device) standing.members ≡ bus.profile.now
   pub runs : Runs (first_members bus.profile.now) standing.past standing.members

@@ -1,5 +1,6 @@
 -- Where the registers of each code lie.
-use Rattle.std.specs.Prelude.{◌≢◌, ℕ, ◌<◌, ◌≤◌, Option, Some, None, List, [], length, map, slice_index_or, take, drop}
+use Rattle.std.specs.Prelude.{◌≡◌, ◌≢◌, ℕ, ◌<◌, ◌≤◌, Option, Some, None, List, [], length, map, slice_index_or, take, drop}
+use Rattle.std.specs.Prelude.{vec_capacity}
 use Rattle.std.specs.List.{AllByRecursion}
 use Rattle.pmb_registers.specs.declared.register_range.RegisterRange.{RegisterRange}
 use Rattle.pmb_registers.specs.declared.registers.Registers.TheInside.{Inside}
@@ -37,7 +38,9 @@ in_state r = record {
       record { page = r.page; registers = map register_data r.registers.items };
 }
 
--- What is kept beside the registers is true of them: the places, and the list of status registers.
+-- What is kept beside the registers is true of them: the places, and the list of status registers. There
+-- is memory for just as many registers as there are.
 pub record IsKept (r : Inside) : Type 0 where
+  pub exact : vec_capacity r.registers ≡ length r.registers.items
   pub places : ArePlaces r.places (map register_data r.registers.items)
   pub status_codes : AreStatusCodes r.device.now r.status_codes.items

@@ -13,7 +13,7 @@ returns-clause-placed c =
     let device = c.args.device.now in
     let before = c.args.registers.now in
     let after = c.push_registers.new.registers in
-    let added = c.in_ok-push_registers.ensures in
+    let added = c.push_registers.ensures.added in
     let place : RegisterRange = record { start = c.len-start.result; end = c.len.result } in
     let placed = placed_more c.args.code place c.args.places.now (map register_data before.items)
     (registers_of_some device (command_with c.args.code device.commands))

@@ -1,13 +1,27 @@
-use Rattle.std.proofs.Common.{◌≡◌, ◌++◌, List, map, subst, sym}
-use Rattle.std.specs.Prelude.{OnOk}
+use Rattle.std.proofs.Common.{◌≡◌, ◌++◌, List, map, arith, subst, sym}
 use Rattle.pmb_command.specs.Entry.{entry_parts}
 use Rattle.pmb_registers.specs.State.{RegisterData}
 use Rattle.pmb_registers.specs.machine.Registers.{register_data}
 use Rattle.pmb_registers.proofs.Beginning.{register_of_all, registers_on_pages, the_command}
+use Rattle.pmb_registers.proofs.Count.{counted_all, counted_on_pages}
 use Rattle.pmb_registers.proofs.first.push_registers.Goals as goal
 
-pub returns-then-entry : goal.returns-then-entry
-returns-then-entry c =
+pub push_pages-requires : goal.push_pages-requires
+push_pages-requires c =
+    let device = c.args.device.now in
+    let pages = counted_on_pages device c.args.code (entry_parts c.in-Some.entry.now) c.in-Some-register_form.form
+    c.in-Some.ensures.entry (sym c.in-Some-register_form.ensures) c.if-entry.true in
+    omega (arith, c.requires)
+
+pub push_register-requires : goal.push_register-requires
+push_register-requires c =
+    let device = c.args.device.now in
+    let one = counted_all device c.args.code (entry_parts c.in-Some.entry.now) c.in-Some-register_form.form
+    c.in-Some.ensures.entry (sym c.in-Some-register_form.ensures) c.if-entry.false in
+    omega (arith, c.requires)
+
+pub returns-then-entry-clause-added : goal.returns-then-entry-clause-added
+returns-then-entry-clause-added c =
     let device = c.args.device.now in
     let entry = entry_parts c.in-Some.entry.now in
     let form = c.in-Some-register_form.form in
@@ -16,11 +30,10 @@ returns-then-entry c =
     let the = the_command device c.args.code entry form c.in-Some.ensures.entry (sym c.in-Some-register_form.ensures) in
     let are = registers_on_pages device c.args.code entry form c.in-Some.ensures.entry
     (sym c.in-Some-register_form.ensures) c.if-entry.true in
-    subst (λ (rs : List RegisterData). OnOk c.push_pages.result (after ≡ before ++ rs)) are
-    (c.push_pages.ensures the.0 the.1.0)
+    subst (λ (rs : List RegisterData). after ≡ before ++ rs) are (c.push_pages.ensures.added the.0 the.1.0)
 
-pub returns : goal.returns
-returns c =
+pub returns-else-entry-clause-added : goal.returns-else-entry-clause-added
+returns-else-entry-clause-added c =
     let device = c.args.device.now in
     let entry = entry_parts c.in-Some.entry.now in
     let form = c.in-Some-register_form.form in
@@ -29,5 +42,4 @@ returns c =
     let the = the_command device c.args.code entry form c.in-Some.ensures.entry (sym c.in-Some-register_form.ensures) in
     let is = register_of_all device c.args.code entry form c.in-Some.ensures.entry
     (sym c.in-Some-register_form.ensures) c.if-entry.false in
-    subst (λ (rs : List RegisterData). OnOk c.push_register.result (after ≡ before ++ rs)) is
-    (c.push_register.ensures the.0 the.1.0)
+    subst (λ (rs : List RegisterData). after ≡ before ++ rs) is (c.push_register.ensures.added the.0 the.1.0)

@@ -1,4 +1,4 @@
-use Rattle.std.proofs.Common.{List, refl, sym, ap, subst, arith}
+use Rattle.std.proofs.Common.{◌∙◌, List, refl, sym, ap, subst, arith}
 use Rattle.std.specs.Vec.{with_items}
 use Rattle.std.proofs.lemmas.List.{with_items_is}
 use Rattle.pmb_device.specs.declared.device.Device.{Device}
@@ -23,6 +23,7 @@ returns-clause-takes c = λ standing at.
       devices =
           with_items c.args.self.now.devices c.hand_on-answer.new.devices;
     } in
-    takes c.args.self.now new refl standing at c.args.signal c.new.result.result c.hand_on-answer.result
+    takes c.args.self.now new refl (at.exact ∙ sym c.args.self.now.devices.ok.0 ∙ new.devices.ok.0) standing at
+    c.args.signal c.new.result.result c.hand_on-answer.result
     (ap (λ (r : RecordedData). r.result) c.new.ensures) c.transactions_are_applied.ensures
     (subst (HandsOn legs c.args.signal standing.members c.hand_on-answer.result) (sym items) handed)
