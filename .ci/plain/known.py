@@ -20,6 +20,7 @@ class Known:
 
     def __init__(self, profile, is_late=False, is_fixed=False):
         self.profile = profile
+        self.is_late = is_late
         self.is_told = is_late and not is_fixed  # VOUT_MODE is what was told alone
         self.pages = {}
         self.phases = dict.fromkeys(device.address for device in profile.devices)
@@ -51,6 +52,14 @@ class Known:
                     self.modes[part.address] = [None] * len(self.modes[part.address])
         if isinstance(transaction, Read):
             self.tell(transaction.address, transaction.code, transaction.reply)
+
+    def drop_line(self):
+        """A line was dropped, and may have set any of them: what was told is not known any more."""
+        self.phases = dict.fromkeys(self.phases)
+        if self.is_late:
+            self.pages = dict.fromkeys(self.pages)
+        if self.is_told:
+            self.modes = {address: [None] * len(modes) for address, modes in self.modes.items()}
 
     def tell(self, address, code, data):
         if code == 0x00:

@@ -356,7 +356,11 @@ def read_on(objects, profile, given, choice, first, begin):
     time = spans[-1].time if spans and spans[-1].is_open() else None
     objects.bad_token(head(given, [at], first, time, first), word)
     line_end = given.find(b"\n", at)
-    return first, line_end + 1 if choice.keep_going and line_end >= 0 else None
+    if not choice.keep_going or line_end < 0:
+        return first, None
+    objects.known.drop_line()
+    objects.told.drop_line()
+    return first, line_end + 1
 
 
 def words_from(given, begin):

@@ -107,6 +107,13 @@ S b0 A d0 A 32 A 00 A P/S b0 A d0 A S b1 A 00 A 80 N P/S b0 A d0 A S b1 A ff A 7
 S b2 A 21 A 00 A 18 A P/S b2 A 20 A 1e A P/S b2 A 21 A 00 A 18 A P/S b2 A 22 A ff A ff A P/S b2 A 20 A 97 A P/S b2 A 21 A 00 A 18 A P
 """
 
+# Captures with lines that are dropped, which may have set PAGE and VOUT_MODE; / ends a line.
+DROPPED = """
+S b2 A 20 A 17 A P/S b2 A 8b A S b3 A 00 A 18 N P/S b2 A 20 A 14 AP/S b2 A 8b A S b3 A 00 A 18 N P/S b2 A 20 A 14 A P/S b2 A 8b A S b3 A 00 A 18 N P
+S b0 A 00 A 01 A P/S b0 A 20 A 14 A P/S b0 A 8b A S b1 A 00 A 18 N P/x/S b0 A 8b A S b1 A 00 A 18 N P/S b0 A 00 A 01 A P/S b0 A 8b A S b1 A 00 A 18 N P
+S b0 A 00 A ff A P/S b0 A 20 A 14 A P/x/S b0 A 20 A 17 A P/S b0 A 21 A 00 A 18 A P/S b0 A 00 A 00 A P/S b0 A 21 A 00 A 18 A P/S b0 A 20 A 17 A P x/S b0 A 21 A 00 A 18 A P
+"""
+
 # Transaction lines under the sample profile.
 TRANSACTIONS = """
 write 58 21 00 18 pec
@@ -395,7 +402,13 @@ def rows_with_flags(task):
         text = capture.replace(b"/", b"\n")
         for words in ([], ["--keep-going"], ["--late"], ["--late", "--fixed-vout-mode"]):
             found.append(([task, "--sample"] + words, text))
-    return found
+    return found + dropped_rows([task, "--sample"])
+
+
+def dropped_rows(words):
+    """Captures with lines that are dropped."""
+    flags = [["--keep-going"], ["--late", "--keep-going"], ["--late", "--fixed-vout-mode", "--keep-going"]]
+    return [(words + more, capture.replace(b"/", b"\n")) for capture in lines_of(DROPPED) for more in flags]
 
 
 def stats_rows():
@@ -410,7 +423,7 @@ def stats_rows():
         text = capture.replace(b"/", b"\n")
         for words in ([], ["--json"], ["--json", "--late"], ["--json", "--keep-going"]):
             found.append((["stats", "--sample"] + words, text))
-    return found
+    return found + dropped_rows(["stats", "--sample", "--json"])
 
 
 def conversions():

@@ -4,14 +4,15 @@ All of it is sent to the workers as it is here, so what they are given and what 
 data, and nothing else of the package is used.
 
 A piece other than the first is read behind a front: packets that tell PAGE, PHASE and VOUT_MODE as
-the capture has told them up to there. `tells` finds what a piece tells of these, and `reduced`
-keeps what still counts. What the front itself comes to is taken off again by whom the answer goes
-to. """
+the capture has told them up to there, and a line with a bad token for each line that was dropped.
+`tells` finds what a piece tells of these, and `reduced` keeps what still counts. What the front
+itself comes to is taken off again by whom the answer goes to. """
 
 import contextlib
 import errno
 import importlib
 import importlib.util
+import itertools
 import json
 import os
 import re
@@ -34,8 +35,11 @@ _WORDS = bytes(32 if each in b" \t\r\n" else 120 for each in range(256))
 Job = Dict[str, Any]
 Answer = Dict[str, Any]
 # What a packet tells of a device: its address, what (`page`, `phase`, `mode`, or `untold` for a
-# restore), the data, and the transaction's line.
+# restore), the data, and the transaction's line. A line that was dropped is told of no device.
 Told = Tuple[str, str, str, str]
+_DROPPED: Told = ("", "dropped", "", "")
+# A line with a word that is no token.
+_BAD_LINE = b"?\n"
 # What there is where a piece begins: what was told before it, and the numbers of events and lines.
 Start = Tuple[List[Told], int, int]
 
@@ -251,8 +255,43 @@ def _packets_that_tell(chunks: Iterator[bytes]) -> Iterator[bytes]:
                 yield text[start:stop] + b"\n"
 
 
+def _lines(chunks: Iterator[bytes]) -> Iterator[bytes]:
+    rest = b""
+    for chunk in chunks:
+        *lines, rest = (rest + chunk).split(b"\n")
+        for line in lines:
+            yield line + b"\n"
+    yield rest
+
+
+def _packets_and_drops(chunks: Iterator[bytes]) -> Iterator[bytes]:
+    """The same packets, where reading continues after a word that is no token: then its line is
+    dropped, of which what comes before that word is read, and told by a line with such a word."""
+    lines = _lines(chunks)
+    dropped = True
+
+    def up_to_drop() -> Iterator[bytes]:
+        nonlocal dropped
+        for line in lines:
+            words = _COMMENT.sub(b"", line).split()
+            tokens = list(itertools.takewhile(_TOKEN.fullmatch, words))
+            if len(tokens) < len(words):
+                dropped = True
+                yield b" ".join(tokens) + b"\n"
+                return
+            yield line
+
+    while dropped:
+        dropped = False
+        yield from _packets_that_tell(up_to_drop())
+        if dropped:
+            yield _BAD_LINE
+
+
 def _told_by(it: Dict[str, Any]) -> Optional[Told]:
-    """What an object of `json` tells of its device, if anything."""
+    """What an object of `json` tells of its device, if anything, or of all."""
+    if it["kind"] == "bad_token":
+        return _DROPPED
     if it["kind"] not in ("write", "read"):
         return None
     device, code, data, is_read = it["device"], it["code"], it["bytes"], it["kind"] == "read"
@@ -274,31 +313,51 @@ def tells(job: Job, path: str, begin: int, end: int) -> Answer:
     has."""
     found: List[Told] = []
     count = _Count()
+    keeps_going = "--keep-going" in job["read_words"]
 
     def use(stdout: BinaryIO) -> None:
+        most = 10000
         for line in stdout:
             it = _told_by(json.loads(line))
-            if it is not None:
+            # (where reading ends at a word that is no token, nothing comes after it)
+            if it is not None and (keeps_going or it is not _DROPPED):
                 found.append(it)
-                if len(found) > 10000:
+                if len(found) > most:
                     found[:] = reduced(found)
+                    most = max(most, 2 * len(found))
 
     def given() -> Iterator[bytes]:
         yield from _front(job, [])
         chunks = _chunks(path, begin, end)
-        yield from _packets_that_tell(count.of(chunks) if job["task"] == "json" else chunks)
+        chunks = count.of(chunks) if job["task"] == "json" else chunks
+        yield from _packets_and_drops(chunks) if keeps_going else _packets_that_tell(chunks)
 
     with _naming(path):
         _ran(["json", *job["read_words"]], given(), use)
         # (of a line with a word that is no token, what comes before that is read)
-        dropped = job["task"] == "json" and "--keep-going" in job["read_words"]
+        dropped = job["task"] == "json" and keeps_going
         events = _events_of_tokens(path, begin, end) if dropped else count.events
     return {"tells": reduced(found), "events": events, "lines": count.lines}
 
 
 def reduced(told: List[Told]) -> List[Told]:
     """What has the same effect on PAGE, PHASE and VOUT_MODE of each device, whatever they were
-    before, and is short: each page's last VOUT_MODE, the last restore, PHASE and PAGE."""
+    before, and is short: each page's last VOUT_MODE, the last restore, PHASE and PAGE. A line that was
+    dropped stays between what was told before it, which is unknown or assumed, and after it."""
+    found: List[Told] = []
+    since: List[Told] = []
+    for it in told:
+        if it[1] != "dropped":
+            since.append(it)
+            continue
+        found += _reduced_each(since)
+        since = []
+        if not found or found[-1][1] != "dropped":
+            found.append(it)
+    return found + _reduced_each(since)
+
+
+def _reduced_each(told: List[Told]) -> List[Told]:
     of_device: Dict[str, List[Told]] = {}
     for it in told:
         of_device.setdefault(it[0], []).append(it)
@@ -354,12 +413,14 @@ def _front(job: Job, told: List[Told]) -> List[bytes]:
     profile = [] if job["profile"] is None else [job["profile"] + b"\n%%\n"]
     if not told:
         return profile
-    lines = "".join(line + "\n" for _, _, _, line in told).encode()
+    lines = "".join(line + "\n" for _, what, _, line in told if what != "dropped").encode()
     words = [word for word in job["read_words"] if word == "--sample"]
     built, status = _ran(["build", *words], iter([*profile, lines]), lambda stdout: stdout.read())
     if status:
         raise ValueError("the profile has no packet for what was told of PAGE, PHASE and VOUT_MODE")
-    return [*profile, built]
+    packets = iter(built.splitlines(True))
+    front = (_BAD_LINE if what == "dropped" else next(packets) for _, what, _, _ in told)
+    return [*profile, b"".join(front)]
 
 
 def piece(job: Job, path: str, begin: int, end: int, start: Start) -> Answer:
@@ -384,7 +445,8 @@ def piece(job: Job, path: str, begin: int, end: int, start: Start) -> Answer:
     answer.update(worker=_worker(), version=version(), events=count.events)
     if job["task"] == "json":
         if told:
-            count.add(front[-1])
+            # (a word that is no token is no event)
+            count.add(front[-1].replace(_BAD_LINE, b"\n"))
         objects, counts = _parted(text)
         front_objects, before = _parted(before)
         objects = _moved(objects[len(front_objects) :], events - count.events, lines - count.lines)

@@ -21,7 +21,7 @@ pub struct ReaderGround {
     pub devices: Vec<u8>,
     /// The most digits after the point of a number.
     pub digits: Digits,
-    /// What is known of PAGE and VOUT_MODE where the capture begins.
+    /// What is known of PAGE and VOUT_MODE where the capture begins, and after a line that was dropped.
     pub start: Start,
     /// Whether reading ends at a word that is no token, or continues with the next line.
     pub bad_words: AfterBadToken,

@@ -22,13 +22,14 @@ use Rattle.pmb_transaction.specs.Capture.{EndsAtFirstStop}
 use Rattle.pmb_transaction.specs.Packet.{Packet}
 use Rattle.pmb_transaction.specs.Reading.{RefusalData}
 use Rattle.pmb_transaction.specs.Transaction.{TransactionData}
+use Rattle.pmb_unknown_start.specs.Past.{PastData}
 use Rattle.pmb_fact_stream.specs.declared.stream.Begun.{Begun}
 use Rattle.pmb_fact_stream.specs.Before.{Before}
 use Rattle.pmb_fact_stream.specs.Choice.{ChoiceData}
 use Rattle.pmb_fact_stream.specs.Others.{other_address}
 use Rattle.pmb_fact_stream.specs.Spans.{event_place, event_time}
 use Rattle.pmb_fact_stream.specs.Spans.{open_facts, other_or, refused_span, span_facts}
-use Rattle.pmb_fact_stream.specs.Spans.{transactions_in}
+use Rattle.pmb_fact_stream.specs.Spans.{past_in}
 use Rattle.pmb_fact_stream.specs.machine.Begun.{begun_legs, kept_facts}
 use Rattle.pmb_fact_stream.proofs.Fronts.{BeginsOther}
 use Rattle.pmb_fact_stream.proofs.Fronts.{open_none, open_other}
@@ -44,7 +45,7 @@ head_as at place time = record { at = at; place = place; time = time }
 
 module _ (choice : ChoiceData) (b : Before) where
   -- of a text the facts of spans, and of what is under way
-  abbrev pub spans_in : List ℕ → List TransactionData → List Span → List FactData
+  abbrev pub spans_in : List ℕ → List PastData → List Span → List FactData
   spans_in bytes before spans =
       span_facts choice.ignored (event_place b.read b.n bytes) (event_time b.n bytes) before spans
 
@@ -55,13 +56,13 @@ module _ (choice : ChoiceData) (b : Before) where
   -- this holds of them, whatever follows the bytes
   abbrev pub FactsAre : List ℕ → List Span → Standing → (List FactData → Type 0) → Type 0
   FactsAre bytes spans standing Holds =
-      (more : List ℕ) → Holds (spans_in (bytes ++ more) b.ts (moved_spans b.n spans) ++ open_in (bytes ++ more)
+      (more : List ℕ) → Holds (spans_in (bytes ++ more) b.past (moved_spans b.n spans) ++ open_in (bytes ++ more)
       standing)
 
   pub facts_behind : (bytes others : List ℕ) (spans : List Span) (standing : Standing) (Holds : List FactData → Type 0)
       → FactsAre bytes spans standing Holds → FactsAre (bytes ++ others) spans standing Holds
   facts_behind bytes others spans standing Holds are more =
-      subst (λ (l : List ℕ). Holds (spans_in l b.ts (moved_spans b.n spans) ++ open_in l standing))
+      subst (λ (l : List ℕ). Holds (spans_in l b.past (moved_spans b.n spans) ++ open_in l standing))
       (sym (append_assoc bytes others more)) (are (others ++ more))
 
   -- where no other begins they stay
@@ -69,7 +70,7 @@ module _ (choice : ChoiceData) (b : Before) where
       → ((l : List ℕ) → open_in l next ≡ open_in l standing) → FactsAre bytes spans standing Holds
       → FactsAre bytes spans next Holds
   facts_stay bytes spans standing next Holds same are more =
-      subst (λ (os : List FactData). Holds (spans_in (bytes ++ more) b.ts (moved_spans b.n spans) ++ os))
+      subst (λ (os : List FactData). Holds (spans_in (bytes ++ more) b.past (moved_spans b.n spans) ++ os))
       (sym (same (bytes ++ more))) (are more)
 
   -- one begins, and its fact is added
@@ -79,7 +80,7 @@ module _ (choice : ChoiceData) (b : Before) where
       → ((more : List ℕ) → added ≡ open_in (bytes ++ more) next) → KeepsOn Holds Then added
       → FactsAre bytes spans standing Holds → FactsAre bytes spans next Then
   facts_begin bytes spans standing next Holds Then added none adds on are more =
-      let first = spans_in (bytes ++ more) b.ts (moved_spans b.n spans) in
+      let first = spans_in (bytes ++ more) b.past (moved_spans b.n spans) in
       subst Then (ap (λ (os : List FactData). first ++ os) (adds more))
       (on first (subst Holds (ap (λ (os : List FactData). first ++ os) (none (bytes ++ more)) ∙ append-nil first)
       (are more)))
@@ -88,7 +89,7 @@ module _ (choice : ChoiceData) (b : Before) where
   abbrev pub AddsFacts : List ℕ → List Span → Standing → Span → List FactData → Type 0
   AddsFacts bytes spans standing span added =
       (more : List ℕ) → open_in (bytes ++ more) standing ++ added
-      ≡ spans_in (bytes ++ more) (b.ts ++ transactions_in spans) (moved_span b.n span ∷ [])
+      ≡ spans_in (bytes ++ more) (b.past ++ past_in spans) (moved_span b.n span ∷ [])
 
   pub facts_more : (bytes : List ℕ) (spans : List Span) (standing next : Standing) (span : Span)
       (Holds Then : List FactData → Type 0) (added : List FactData) → ((l : List ℕ) → open_in l next ≡ [])
@@ -98,12 +99,12 @@ module _ (choice : ChoiceData) (b : Before) where
       let l = bytes ++ more in
       let place = event_place b.read b.n l in
       let times = event_time b.n l in
-      let first = spans_in l b.ts (moved_spans b.n spans) in
-      let all = spans_in l b.ts (moved_spans b.n (spans ++ span ∷ [])) in
+      let first = spans_in l b.past (moved_spans b.n spans) in
+      let all = spans_in l b.past (moved_spans b.n (spans ++ span ∷ [])) in
       subst Then (append_assoc first (open_in l standing) added
       ∙ ap (λ (os : List FactData). first ++ os) (adds more)
       ∙ sym (ap (λ (os : List FactData). all ++ os) (none l) ∙ append-nil all
-      ∙ facts_moved choice.ignored place times b.ts b.n spans (span ∷ [])))
+      ∙ facts_moved choice.ignored place times b.past b.n spans (span ∷ [])))
       (on (first ++ open_in l standing) (are more))
 
   -- ---- what a visit adds
@@ -123,13 +124,13 @@ module _ (choice : ChoiceData) (b : Before) where
       → other_address choice.ignored front ≡ None → other_address choice.ignored (front ++ event ∷ []) ≡ None
       → EndsAtFirstStop (front ++ event ∷ []) → Packet accepted t (front ++ event ∷ [])
       → AddsFacts bytes spans (Open n front) (ReadSpan n (front ++ event ∷ []) t)
-      (kept_facts (b.ts ++ transactions_in spans) time begun t)
+      (kept_facts (b.past ++ past_in spans) time begun t)
   packet_adds accepted bytes spans time begun n front event t timed kept none still ends packet more =
       let l = bytes ++ more in
       let place = event_place b.read b.n l in
       let times = event_time b.n l in
       let own = times (b.n + n) in
-      let before = b.ts ++ transactions_in spans in
+      let before = b.past ++ past_in spans in
       let events = front ++ event ∷ [] in
       ap (λ (os : List FactData). os ++ kept_facts before time begun t)
       (open_none choice.ignored place times b.n n front none)
@@ -146,14 +147,14 @@ module _ (choice : ChoiceData) (b : Before) where
       → other_address choice.ignored front ≡ None → other_address choice.ignored (front ++ event ∷ []) ≡ None
       → EndsBetween b.read → Spells bytes (events ++ event ∷ []) → n + length front ≡ length events
       → AddsFacts bytes spans (Open n front) (RefusedSpan n front event refusal)
-      (refusal_fact (b.ts ++ transactions_in spans)
+      (refusal_fact (b.past ++ past_in spans)
       (head_as (capped (b.n + length events)) (place_of_last_word (b.read ++ bytes)) time) front (Some event)
       refusal.reason refusal.expected ∷ [])
   refusal_adds law bytes events spans time n front event refusal timed none still between spells counted more =
       let l = bytes ++ more in
       let place = event_place b.read b.n l in
       let times = event_time b.n l in
-      let before = b.ts ++ transactions_in spans in
+      let before = b.past ++ past_in spans in
       let at : b.n + length events ≡ (b.n + n) + length front = omega (arith, counted) in
       let one = λ (k : ℕ) (p : Place) (o : Option (List ℕ)).
       refusal_fact before (head_as (capped k) p o) front (Some event) refusal.reason refusal.expected ∷ [] in
@@ -177,7 +178,7 @@ module _ (choice : ChoiceData) (b : Before) where
       let place = event_place b.read b.n l in
       let times = event_time b.n l in
       let events = front ++ event ∷ [] in
-      let facts = packet_facts (b.ts ++ transactions_in spans) place
+      let facts = packet_facts (b.past ++ past_in spans) place
       (times (b.n + n)) (b.n + n) events t in
       append-nil (open_in l (Open n front))
       ∙ (open_other choice.ignored place times b.n n front addr is
@@ -191,7 +192,7 @@ module _ (choice : ChoiceData) (b : Before) where
       let l = bytes ++ more in
       let place = event_place b.read b.n l in
       let times = event_time b.n l in
-      let fact = refused_span place times (b.ts ++ transactions_in spans) (b.n + n) front (Some event)
+      let fact = refused_span place times (b.past ++ past_in spans) (b.n + n) front (Some event)
       refusal in
       append-nil (open_in l (Open n front))
       ∙ (open_other choice.ignored place times b.n n front addr is
@@ -227,7 +228,7 @@ module _ (choice : ChoiceData) (b : Before) where
       let times = event_time b.n l in
       let one = other_fact (head_as (capped (b.n + length events)) (place_of_last_word (b.read ++ bytes)) time) addr
       in
-      let fact = refused_span place times (b.ts ++ transactions_in spans) (b.n + n) front (Some event)
+      let fact = refused_span place times (b.past ++ past_in spans) (b.n + n) front (Some event)
       refusal in
       let alone : n + 1 ≡ length events = omega (arith, counted, ap (λ (es : List Event). length es) other.alone) in
       ap (λ (os : List FactData). os ++ one ∷ [])

@@ -1,5 +1,5 @@
 -- Facts to which it is nothing what came before: an other, and a word that is no token. For `put_fact`:
--- their lines are the same after any transactions.
+-- their lines are the same whatever went before.
 use Rattle.std.proofs.Common.{◌≡◌, ℕ, List, refl}
 use Rattle.pmb_facts.specs.Fact.{WhatData, Write, Read, Call, Refused, Alert, NoAlert, Other, Refusal, BadToken}
 use Rattle.pmb_json_objects.specs.Head.{Head}

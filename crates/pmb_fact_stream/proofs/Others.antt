@@ -12,7 +12,7 @@ use Rattle.pmb_reader.specs.Refusal.{refusal_data}
 use Rattle.pmb_scan.specs.Scan.{end_spans}
 use Rattle.pmb_spans.specs.Spans.{Span, ReadSpan, RefusedSpan, TruncatedSpan, is_whole, moved_refusal, moved_spans}
 use Rattle.pmb_transaction.specs.Reading.{RefusalData}
-use Rattle.pmb_transaction.specs.Transaction.{TransactionData}
+use Rattle.pmb_unknown_start.specs.Past.{PastData}
 use Rattle.pmb_fact_stream.specs.Others.{is_told, is_untold, other_address}
 use Rattle.pmb_fact_stream.specs.Spans.{after_either, after_open, after_some, after_spans, open_facts, other_or}
 use Rattle.pmb_fact_stream.specs.Spans.{refused_span, span_facts}
@@ -45,7 +45,7 @@ abbrev pub NoneOutside : Standing → Option Refusal → Type 0
 NoneOutside standing end = (n : ℕ) (front : List Event) → standing ≡ Open n front → end ≡ None → front ≡ []
 
 module _ (ignored : Option (List ℕ)) (place : ℕ → Place) (times : ℕ → Option (List ℕ))
-    (before : List TransactionData) (m : ℕ) where
+    (before : List PastData) (m : ℕ) where
   abbrev facts_of : List Span → List FactData
   facts_of spans = span_facts ignored place times before (moved_spans m spans)
 

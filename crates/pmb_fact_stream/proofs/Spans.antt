@@ -1,4 +1,4 @@
--- What spans say, one list after the other: their transactions, counts and facts. For each
+-- What spans say, one list after the other: what went before, counts and facts. For each
 -- function that tells of a span more (`take_group`, `take_line`, `take_word`, `put_bad_word`,
 -- `put_end`, and the visits). By induction over the spans.
 use Rattle.std.proofs.Common.{◌≡◌, ℕ, Option, Some, None, List, [], ◌∷◌, ◌++◌, append-nil, append_assoc, refl, sym}
@@ -10,25 +10,25 @@ use Rattle.pmb_facts.specs.Fact.{FactData}
 use Rattle.pmb_facts.specs.Packets.{packet_facts}
 use Rattle.pmb_places.specs.declared.places.Place.{Place}
 use Rattle.pmb_spans.specs.Spans.{Span, ReadSpan, RefusedSpan, TruncatedSpan, moved_spans}
-use Rattle.pmb_transaction.specs.Transaction.{TransactionData}
+use Rattle.pmb_unknown_start.specs.Past.{PastData, Said}
 use Rattle.pmb_fact_stream.specs.Spans.{after_span, after_spans, other_or, refused_span, span_facts}
 use Rattle.pmb_fact_stream.specs.Others.{other_address}
-use Rattle.pmb_fact_stream.specs.Spans.{transactions_in}
+use Rattle.pmb_fact_stream.specs.Spans.{past_in}
 
--- ---- transactions, counts
+-- ---- what was said, counts
 
-pub transactions_append : (a b : List Span) → transactions_in (a ++ b) ≡ transactions_in a ++ transactions_in b
-transactions_append [] b = refl
-transactions_append (ReadSpan n events t ∷ a) b = ap (λ (ts : List TransactionData). t ∷ ts) (transactions_append a b)
-transactions_append (RefusedSpan n front event refusal ∷ a) b = transactions_append a b
-transactions_append (TruncatedSpan n front refusal ∷ a) b = transactions_append a b
+pub past_append : (a b : List Span) → past_in (a ++ b) ≡ past_in a ++ past_in b
+past_append [] b = refl
+past_append (ReadSpan n events t ∷ a) b = ap (λ (past : List PastData). Said t ∷ past) (past_append a b)
+past_append (RefusedSpan n front event refusal ∷ a) b = past_append a b
+past_append (TruncatedSpan n front refusal ∷ a) b = past_append a b
 
-pub transactions_moved : (n : ℕ) (spans : List Span) → transactions_in (moved_spans n spans) ≡ transactions_in spans
-transactions_moved n [] = refl
-transactions_moved n (ReadSpan m events t ∷ spans) = ap (λ (ts : List TransactionData). t ∷ ts)
-    (transactions_moved n spans)
-transactions_moved n (RefusedSpan m front event refusal ∷ spans) = transactions_moved n spans
-transactions_moved n (TruncatedSpan m front refusal ∷ spans) = transactions_moved n spans
+pub past_moved : (n : ℕ) (spans : List Span) → past_in (moved_spans n spans) ≡ past_in spans
+past_moved n [] = refl
+past_moved n (ReadSpan m events t ∷ spans) = ap (λ (past : List PastData). Said t ∷ past)
+    (past_moved n spans)
+past_moved n (RefusedSpan m front event refusal ∷ spans) = past_moved n spans
+past_moved n (TruncatedSpan m front refusal ∷ spans) = past_moved n spans
 
 pub counts_append : (ignored : Option (List ℕ)) (c : CountsData) (a b : List Span)
     → after_spans ignored c (a ++ b) ≡ after_spans ignored (after_spans ignored c a) b
@@ -37,18 +37,18 @@ counts_append ignored c a b = fold-append (after_span ignored) c a b
 -- ---- facts
 
 module _ (ignored : Option (List ℕ)) (place : ℕ → Place) (times : ℕ → Option (List ℕ)) where
-  facts_append : (before : List TransactionData) (a b : List Span)
+  facts_append : (before : List PastData) (a b : List Span)
       → span_facts ignored place times before (a ++ b) ≡ span_facts ignored place times before a
-      ++ span_facts ignored place times (before ++ transactions_in a) b
-  facts_append before [] b = ap (λ (ts : List TransactionData). span_facts ignored place times ts b)
+      ++ span_facts ignored place times (before ++ past_in a) b
+  facts_append before [] b = ap (λ (past : List PastData). span_facts ignored place times past b)
       (sym (append-nil before))
   facts_append before (ReadSpan n events t ∷ a) b =
       let first = other_or place times n (other_address ignored events)
       (packet_facts before place (times n) n events t) in
       ap (λ (os : List FactData). first ++ os)
-      (facts_append (before ++ t ∷ []) a b
-      ∙ ap (λ (ts : List TransactionData). span_facts ignored place times (before ++ t ∷ []) a
-      ++ span_facts ignored place times ts b) (append_assoc before (t ∷ []) (transactions_in a)))
+      (facts_append (before ++ Said t ∷ []) a b
+      ∙ ap (λ (past : List PastData). span_facts ignored place times (before ++ Said t ∷ []) a
+      ++ span_facts ignored place times past b) (append_assoc before (Said t ∷ []) (past_in a)))
       ∙ sym (append_assoc first _ _)
   facts_append before (RefusedSpan n front event refusal ∷ a) b =
       let first = other_or place times n (other_address ignored (front ++ event ∷ []))
@@ -60,12 +60,12 @@ module _ (ignored : Option (List ℕ)) (place : ℕ → Place) (times : ℕ → 
       ap (λ (os : List FactData). first ++ os) (facts_append before a b) ∙ sym (append_assoc first _ _)
 
   -- of spans that are moved, and others after them
-  pub facts_moved : (before : List TransactionData) (n : ℕ) (a b : List Span)
+  pub facts_moved : (before : List PastData) (n : ℕ) (a b : List Span)
       → span_facts ignored place times before (moved_spans n (a ++ b))
       ≡ span_facts ignored place times before (moved_spans n a) ++ span_facts ignored place times
-      (before ++ transactions_in a) (moved_spans n b)
+      (before ++ past_in a) (moved_spans n b)
   facts_moved before n a b =
       ap (span_facts ignored place times before) (map-append _ a b) ∙ facts_append before (moved_spans n a)
       (moved_spans n b)
-      ∙ ap (λ (ts : List TransactionData). span_facts ignored place times before (moved_spans n a)
-      ++ span_facts ignored place times (before ++ ts) (moved_spans n b)) (transactions_moved n a)
+      ∙ ap (λ (past : List PastData). span_facts ignored place times before (moved_spans n a)
+      ++ span_facts ignored place times (before ++ past) (moved_spans n b)) (past_moved n a)

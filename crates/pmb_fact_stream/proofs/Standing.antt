@@ -27,6 +27,7 @@ use Rattle.pmb_scan.specs.Reached.{at_start, behind_whole, standing_after}
 use Rattle.pmb_times.specs.Times.{TimesStandAt}
 use Rattle.pmb_transaction.specs.Reading.{RefusalData}
 use Rattle.pmb_transaction.specs.Transaction.{TransactionData}
+use Rattle.pmb_unknown_start.specs.Past.{PastData}
 use Rattle.pmb_fact_stream.specs.declared.open_time.OpenTime.{OpenTime}
 use Rattle.pmb_fact_stream.specs.declared.stream.Begun.{Begun}
 use Rattle.pmb_fact_stream.specs.declared.stream.Stream.{Stream}
@@ -45,13 +46,13 @@ use Rattle.pmb_fact_stream.proofs.UnderWay.{behind_stop, keeps_time_behind, unde
 -- ---- what it was given
 
 -- the same, in other words
-pub knows_as : (b d : Before) (stream : Stream) → b.read ≡ d.read → b.n ≡ d.n → b.ts ≡ d.ts → b.counts ≡ d.counts
+pub knows_as : (b d : Before) (stream : Stream) → b.read ≡ d.read → b.n ≡ d.n → b.past ≡ d.past → b.counts ≡ d.counts
     → StreamKnows b stream → StreamKnows d stream
-knows_as b d stream read n ts counts knows = record {
+knows_as b d stream read n past counts knows = record {
   places = subst (λ (l : List ℕ). PlacesStandAt stream.places l) read knows.places;
   word = subst (λ (l : List ℕ). OpenWordStandsAt stream.word l) read knows.word;
   count = knows.count ∙ ap capped n;
-  late = subst (λ (l : List TransactionData). HasSeen stream.late (stream_profile stream) stream.choice.start l) ts
+  late = subst (λ (l : List PastData). HasSeen stream.late (stream_profile stream) stream.choice.start l) past
       knows.late;
   counts = subst (λ (c : CountsData). CountsAre stream.counts c) counts knows.counts;
   tally = subst (λ (c : CountsData). IsTallyOf c.packets (c.refusals + c.bad_tokens) stream.tally) counts knows.tally;
@@ -263,7 +264,7 @@ begins_so b stream between knows cleared reading times time = record {
   profile = refl;
   knows = knows_as b (with_reached (stream_choice stream).ignored b (at_start (stream_profile stream))) stream
       (sym (append-nil b.read))
-      (omega arith) (sym (append-nil b.ts)) refl knows;
+      (omega arith) (sym (append-nil b.past)) refl knows;
   packet = keeps_none b stream [] 0 reading cleared;
   counted = refl;
   times = record { times = times; time = time []; under_way = refl };

@@ -19,6 +19,7 @@ use Rattle.pmb_transaction.specs.Packet.{Packet}
 use Rattle.pmb_transaction.specs.declared.part.Part.{Part}
 use Rattle.pmb_transaction.specs.Transaction.{part_data, PartData, TransactionData, Write, Read, Call, Refused, Alert}
 use Rattle.pmb_transaction.specs.Transaction.{NoAlert}
+use Rattle.pmb_unknown_start.specs.Past.{PastData}
 use Rattle.pmb_fact_stream.specs.declared.stream.Begun.{Begun}
 use Rattle.pmb_fact_stream.specs.machine.Begun.{begun_at, begun_behind, begun_legs}
 use Rattle.pmb_fact_stream.specs.machine.Begun.{kept_at, kept_fact, kept_facts, kept_writes}
@@ -71,7 +72,7 @@ one_more_kept place n events event =
 
 -- ---- parts
 
-module _ (before : List TransactionData) (time : Option (List ℕ)) where
+module _ (before : List PastData) (time : Option (List ℕ)) where
   -- one part more
   pub one_more_write : (part count i : ℕ) (begun : List Begun) (ps : List PartData) (p : PartData) → i < length ps
       → get_or ps i p ≡ p
@@ -107,7 +108,7 @@ module _ (before : List TransactionData) (time : Option (List ℕ)) where
       (all_writes (part + 1) count n begun ps (omega (arith, few)))
 
 -- one part, at its START
-pub one_write : (before : List TransactionData) (time : Option (List ℕ)) (part count i : ℕ) (begun : List Begun)
+pub one_write : (before : List PastData) (time : Option (List ℕ)) (part count i : ℕ) (begun : List Begun)
     (p : PartData) → kept_at before time i begun (fact.Write part count p)
     ≡ kept_writes before time part count (take 1 (drop i begun)) (p ∷ [])
 one_write before time part count i begun p = at_one (drop i begun)
@@ -118,7 +119,7 @@ one_write before time part count i begun p = at_one (drop i begun)
     at_one (first ∷ l) = refl
 
 -- what is put out of a refused leg after parts
-pub refused_kept : (before : List TransactionData) (time : Option (List ℕ)) (begun : List Begun)
+pub refused_kept : (before : List PastData) (time : Option (List ℕ)) (begun : List Begun)
     (parts slice : List Part) (sent told : List ℕ) (n m addr : ℕ) (at_read : Bool) → slice ≡ parts → n ≡ length parts
     → m ≡ length parts → told ≡ sent
     → kept_writes before time 1 (n + 1) begun (map part_data slice)
@@ -139,7 +140,7 @@ refused_kept before time begun parts slice sent told n m addr at_read same count
     ∙ ap (λ (j : ℕ). of parts (length (map part_data parts)) j told) (counted ∙ all)
     ∙ ap (of parts (length (map part_data parts)) (length (map part_data parts))) said
 
-module _ (before : List TransactionData) (place : ℕ → Place) (time : Option (List ℕ)) where
+module _ (before : List PastData) (place : ℕ → Place) (time : Option (List ℕ)) where
   writes_are : (most part parts : ℕ) (ats : List ℕ) (ps : List PartData) → length ps ≤ most
       → kept_writes before time part parts (take most (map (begun_at place) ats)) ps
       ≡ write_facts before place time part parts ats ps

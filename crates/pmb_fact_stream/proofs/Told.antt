@@ -25,7 +25,7 @@ use Rattle.pmb_fact_stream.specs.declared.stream.Stream.{Stream}
 use Rattle.pmb_fact_stream.specs.Before.{Before, with_reached}
 use Rattle.pmb_fact_stream.specs.Choice.{ChoiceData}
 use Rattle.pmb_fact_stream.specs.Spans.{after_open, after_some, after_spans, event_place, event_time}
-use Rattle.pmb_fact_stream.specs.Spans.{transactions_in}
+use Rattle.pmb_fact_stream.specs.Spans.{past_in}
 use Rattle.pmb_fact_stream.specs.Stream.{kept_by}
 use Rattle.pmb_fact_stream.specs.Stream.{HasToldOf, IsSame, StreamAt, StreamKnows, TellsFacts, stream_choice}
 use Rattle.pmb_fact_stream.specs.Stream.{stream_last_lines, stream_profile, stream_time}
@@ -230,7 +230,7 @@ module _ {K : Type 0} (Keeps : K → Setting → List FactData → Type 0) (b : 
       → StreamKnows (record {
         read = b.read ++ reached.text;
         n = (b.n + length reached.events) + 1;
-        ts = b.ts ++ transactions_in reached.spans;
+        past = b.past ++ past_in reached.spans;
         counts = after_other (after_open (stream_choice old.stream).ignored
             (after_spans (stream_choice old.stream).ignored b.counts reached.spans) reached.standing) addr;
       }) new

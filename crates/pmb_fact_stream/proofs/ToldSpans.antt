@@ -23,13 +23,14 @@ use Rattle.pmb_transaction.specs.Capture.{EndsAtFirstStop}
 use Rattle.pmb_transaction.specs.Packet.{Packet}
 use Rattle.pmb_transaction.specs.Reading.{RefusalData}
 use Rattle.pmb_transaction.specs.Transaction.{TransactionData}
+use Rattle.pmb_unknown_start.specs.Past.{PastData, Said}
 use Rattle.pmb_fact_stream.specs.declared.kept_stream.KeptStream.{KeptStream}
 use Rattle.pmb_fact_stream.specs.declared.stream.Stream.{Stream}
 use Rattle.pmb_fact_stream.specs.Before.{Before, with_reached}
 use Rattle.pmb_fact_stream.specs.Choice.{ChoiceData}
 use Rattle.pmb_fact_stream.specs.Others.{other_address, span_events}
 use Rattle.pmb_fact_stream.specs.Spans.{after_either, after_open, after_some, after_spans, event_place, event_time}
-use Rattle.pmb_fact_stream.specs.Spans.{transactions_in}
+use Rattle.pmb_fact_stream.specs.Spans.{past_in}
 use Rattle.pmb_fact_stream.specs.Stream.{kept_by}
 use Rattle.pmb_fact_stream.specs.Stream.{HasToldOf, IsSame, StreamKnows, TellsFacts, stream_choice, stream_profile}
 use Rattle.pmb_fact_stream.specs.Stream.{stream_time}
@@ -41,7 +42,7 @@ use Rattle.pmb_fact_stream.proofs.Fronts.{BeginsOther, address_at_stop, count_be
 use Rattle.pmb_fact_stream.proofs.Fronts.{open_behind_passed}
 use Rattle.pmb_fact_stream.proofs.Lists.{same_last}
 use Rattle.pmb_fact_stream.proofs.Places.{LastWordStands}
-use Rattle.pmb_fact_stream.proofs.Spans.{counts_append, transactions_append}
+use Rattle.pmb_fact_stream.proofs.Spans.{counts_append, past_append}
 use Rattle.pmb_fact_stream.proofs.Standing.{counts_passed, keeps_none, knows_as}
 use Rattle.pmb_fact_stream.proofs.Adding.{AddsFacts, FactsAre, begun_refusal_adds, facts_more, head_as, open_in}
 use Rattle.pmb_fact_stream.proofs.Adding.{other_packet_adds, other_refusal_adds, packet_adds, refusal_adds}
@@ -65,14 +66,14 @@ module _ {K : Type 0} (Keeps : K → Setting → List FactData → Type 0) (b : 
       → StreamKnows (record {
         read = b.read ++ reached.text;
         n = (b.n + length reached.events) + 1;
-        ts = b.ts ++ transactions_in (reached.spans ++ span ∷ []);
+        past = b.past ++ past_in (reached.spans ++ span ∷ []);
         counts = counts;
       }) new
       → AddsFacts (stream_choice start.stream) b reached.text reached.spans (Open n front) span facts
       → TellsFacts Keeps old.stream old.keeper keeper added facts
       → HasToldOf Keeps b start (kept_by new keeper) there (text ++ added)
   told_span there n front event span counts keeper added facts standing profile same_text events spans closed none
-      same times keeps counted counts_are knows adds tells =
+      same times keeps counted counpast_is knows adds tells =
       let ignored = (stream_choice old.stream).ignored in
       let all = after_spans ignored b.counts in record {
         same = same_then start.stream old.stream new told.same same;
@@ -83,8 +84,8 @@ module _ {K : Type 0} (Keeps : K → Setting → List FactData → Type 0) (b : 
               (knows_as _ (with_reached ignored b there) new (ap (λ (l : List ℕ). b.read ++ l) (sym same_text))
               (one_more_event Keeps b start old new reached text told event ∙ ap (λ (es : List Event). b.n + length es)
               (sym events))
-              (ap (λ (l : List Span). b.ts ++ transactions_in l) (sym spans))
-              (counts_are ∙ ap all (sym spans) ∙ sym (closed (all there.spans))) knows);
+              (ap (λ (l : List Span). b.past ++ past_in l) (sym spans))
+              (counpast_is ∙ ap all (sym spans) ∙ sym (closed (all there.spans))) knows);
           packet = keeps;
           counted = counted;
           times = times;
@@ -144,12 +145,12 @@ module _ {K : Type 0} (Keeps : K → Setting → List FactData → Type 0) (b : 
       → StreamKnows (record {
         read = b.read ++ reached.text;
         n = (b.n + length reached.events) + 1;
-        ts = (b.ts ++ transactions_in reached.spans) ++ t ∷ [];
+        past = (b.past ++ past_in reached.spans) ++ Said t ∷ [];
         counts = after_packet (after_open (stream_choice old.stream).ignored
             (after_spans (stream_choice old.stream).ignored b.counts reached.spans) reached.standing) t;
       }) new
       → (keeper : K) (added : List ℕ) → TellsFacts Keeps old.stream old.keeper keeper added
-      (kept_facts (b.ts ++ transactions_in reached.spans) (stream_time old.stream) old.stream.begun.items t)
+      (kept_facts (b.past ++ past_in reached.spans) (stream_time old.stream) old.stream.begun.items t)
       → HasToldOf Keeps b start (kept_by new keeper) (behind_packet reached n front event t) (text ++ added)
   told_packet n front event t standing times ends packet none same passing cleared knows keeper added tells =
       let ignored = (stream_choice old.stream).ignored in
@@ -164,16 +165,16 @@ module _ {K : Type 0} (Keeps : K → Setting → List FactData → Type 0) (b : 
       (same_choice Keeps b start old new reached text told (λ c. other_address c.ignored front ≡ None) none)
       (same_choice Keeps b start old new reached text told (λ c. other_address c.ignored (front ++ event ∷ []) ≡ None)
       still) ends packet in
-      let ts_are : (b.ts ++ transactions_in reached.spans) ++ t ∷ []
-      ≡ b.ts ++ transactions_in (reached.spans ++ span ∷ []) =
-      append_assoc b.ts (transactions_in reached.spans) (t ∷ [])
-      ∙ ap (λ (ts : List TransactionData). b.ts ++ ts) (sym (transactions_append reached.spans (span ∷ []))) in
+      let past_is : (b.past ++ past_in reached.spans) ++ Said t ∷ []
+      ≡ b.past ++ past_in (reached.spans ++ span ∷ []) =
+      append_assoc b.past (past_in reached.spans) (Said t ∷ [])
+      ∙ ap (λ (past : List PastData). b.past ++ past) (sym (past_append reached.spans (span ∷ []))) in
       told_span (behind_packet reached n front event t) n front event span _ keeper added _ standing refl refl refl refl
       (λ c. refl) (λ l. refl) same times
       (keeps_none b new reached.text (n + length front + 1) (passing ∙ kept.reading) cleared)
       (omega (arith, counted, length-append reached.events (event ∷ [])))
       (counted_span _ None span still (ap (λ (c : CountsData). after_packet c t) (counted_none n front standing none)))
-      (knows_as _ _ new refl refl ts_are refl knows)
+      (knows_as _ _ new refl refl past_is refl knows)
       adds tells
 
   -- a packet that is an other: nothing is added
@@ -184,7 +185,7 @@ module _ {K : Type 0} (Keeps : K → Setting → List FactData → Type 0) (b : 
       → StreamKnows (record {
         read = b.read ++ reached.text;
         n = (b.n + length reached.events) + 1;
-        ts = (b.ts ++ transactions_in reached.spans) ++ t ∷ [];
+        past = (b.past ++ past_in reached.spans) ++ Said t ∷ [];
         counts = after_open (stream_choice old.stream).ignored
             (after_spans (stream_choice old.stream).ignored b.counts reached.spans) reached.standing;
       }) new
@@ -201,8 +202,8 @@ module _ {K : Type 0} (Keeps : K → Setting → List FactData → Type 0) (b : 
       (keeps_none b new reached.text (n + length front + 1) (passing ∙ kept.reading) cleared)
       (omega (arith, counted, length-append reached.events (event ∷ [])))
       (counted_other n front addr span standing is still)
-      (knows_as _ _ new refl refl (append_assoc b.ts (transactions_in reached.spans) (t ∷ [])
-      ∙ ap (λ (ts : List TransactionData). b.ts ++ ts) (sym (transactions_append reached.spans (span ∷ [])))) refl
+      (knows_as _ _ new refl refl (append_assoc b.past (past_in reached.spans) (Said t ∷ [])
+      ∙ ap (λ (past : List PastData). b.past ++ past) (sym (past_append reached.spans (span ∷ [])))) refl
       knows)
       (other_packet_adds (stream_choice start.stream) b reached.text reached.spans n front event t addr
       (same_choice Keeps b start old new reached text told (λ c. other_address c.ignored front ≡ Some addr) is)
@@ -220,14 +221,14 @@ module _ {K : Type 0} (Keeps : K → Setting → List FactData → Type 0) (b : 
       → StreamKnows (record {
         read = b.read ++ reached.text;
         n = (b.n + length reached.events) + 1;
-        ts = b.ts ++ transactions_in reached.spans;
+        past = b.past ++ past_in reached.spans;
         counts = counts;
       }) new
       → AddsFacts (stream_choice start.stream) b reached.text reached.spans (Open n front)
       (RefusedSpan n front event refusal) facts
       → TellsFacts Keeps old.stream old.keeper keeper added facts
       → HasToldOf Keeps b start (kept_by new keeper) (behind_refusal reached n front event refusal) (text ++ added)
-  told_refused n front event refusal counts keeper added facts standing same times keeps counts_are knows adds tells =
+  told_refused n front event refusal counts keeper added facts standing same times keeps counpast_is knows adds tells =
       let span = RefusedSpan n front event refusal in
       let counted = counted_packet Keeps b start old new reached text told n front standing in
       told_span (behind_refusal reached n front event refusal) n front event span counts keeper added facts standing
@@ -235,9 +236,9 @@ module _ {K : Type 0} (Keeps : K → Setting → List FactData → Type 0) (b : 
       (λ l. open_behind_passed (stream_choice start.stream).ignored (event_place b.read b.n l)
       (event_time b.n l)
       b.n (n + length front) event) same times keeps
-      (counts_passed (n + length front) reached.events event counted) counts_are
-      (knows_as _ _ new refl refl (ap (λ (ts : List TransactionData). b.ts ++ ts)
-      (sym (transactions_append reached.spans (span ∷ []) ∙ append-nil (transactions_in reached.spans)))) refl knows)
+      (counts_passed (n + length front) reached.events event counted) counpast_is
+      (knows_as _ _ new refl refl (ap (λ (past : List PastData). b.past ++ past)
+      (sym (past_append reached.spans (span ∷ []) ∙ append-nil (past_in reached.spans)))) refl knows)
       adds tells
 
   pub told_refusal : LastWordStands → (n : ℕ) (front : List Event) (event : Event) (refusal : RefusalData)
@@ -249,7 +250,7 @@ module _ {K : Type 0} (Keeps : K → Setting → List FactData → Type 0) (b : 
       → StreamKnows (record {
         read = b.read ++ reached.text;
         n = (b.n + length reached.events) + 1;
-        ts = b.ts ++ transactions_in reached.spans;
+        past = b.past ++ past_in reached.spans;
         counts = after_refusal (after_open (stream_choice old.stream).ignored
             (after_spans (stream_choice old.stream).ignored b.counts reached.spans) reached.standing)
             (said_device front);
@@ -257,7 +258,7 @@ module _ {K : Type 0} (Keeps : K → Setting → List FactData → Type 0) (b : 
       → (time : Option (List ℕ)) → ((more : List ℕ) → time ≡ event_time b.n (reached.text ++ more) (b.n + n))
       → (keeper : K) (added : List ℕ) (place : Place) → place ≡ place_of_last_word (b.read ++ reached.text)
       → TellsFacts Keeps old.stream old.keeper keeper added
-      (refusal_fact (b.ts ++ transactions_in reached.spans)
+      (refusal_fact (b.past ++ past_in reached.spans)
       (head_as (capped (b.n + length reached.events)) place time) front (Some event) refusal.reason refusal.expected
       ∷ [])
       → HasToldOf Keeps b start (kept_by new keeper) (behind_refusal reached n front event refusal) (text ++ added)
@@ -265,7 +266,7 @@ module _ {K : Type 0} (Keeps : K → Setting → List FactData → Type 0) (b : 
       placed tells =
       let span = RefusedSpan n front event refusal in
       let counted = counted_packet Keeps b start old new reached text told n front standing in
-      let facts = λ (q : Place). refusal_fact (b.ts ++ transactions_in reached.spans)
+      let facts = λ (q : Place). refusal_fact (b.past ++ past_in reached.spans)
       (head_as (capped (b.n + length reached.events)) q time) front (Some event) refusal.reason refusal.expected ∷ []
       in
       told_refused n front event refusal _ keeper added (facts place) standing same times keeps
@@ -289,7 +290,7 @@ module _ {K : Type 0} (Keeps : K → Setting → List FactData → Type 0) (b : 
       → StreamKnows (record {
         read = b.read ++ reached.text;
         n = (b.n + length reached.events) + 1;
-        ts = b.ts ++ transactions_in reached.spans;
+        past = b.past ++ past_in reached.spans;
         counts = after_open (stream_choice old.stream).ignored
             (after_spans (stream_choice old.stream).ignored b.counts reached.spans) reached.standing;
       }) new
@@ -313,7 +314,7 @@ module _ {K : Type 0} (Keeps : K → Setting → List FactData → Type 0) (b : 
       → StreamKnows (record {
         read = b.read ++ reached.text;
         n = (b.n + length reached.events) + 1;
-        ts = b.ts ++ transactions_in reached.spans;
+        past = b.past ++ past_in reached.spans;
         counts = after_other (after_open (stream_choice old.stream).ignored
             (after_spans (stream_choice old.stream).ignored b.counts reached.spans) reached.standing) addr;
       }) new

@@ -23,6 +23,7 @@ use Rattle.pmb_transaction.specs.Capture.{EndsAtFirstStop, HasNoStop}
 use Rattle.pmb_transaction.specs.Packet.{Packet}
 use Rattle.pmb_transaction.specs.Transaction.{PartData, TransactionData, Alert, Call, NoAlert, Read}
 use Rattle.pmb_transaction.specs.Transaction.{Refused, Write}
+use Rattle.pmb_unknown_start.specs.Past.{PastData, Said}
 use Rattle.pmb_fact_stream.specs.declared.stream.Begun.{Begun}
 use Rattle.pmb_fact_stream.specs.declared.kept_stream.KeptStream.{KeptStream}
 use Rattle.pmb_fact_stream.specs.declared.stream.Stream.{Stream}
@@ -30,14 +31,14 @@ use Rattle.pmb_fact_stream.specs.Before.{Before, with_reached}
 use Rattle.pmb_fact_stream.specs.Choice.{ChoiceData}
 use Rattle.pmb_fact_stream.specs.Others.{address_if, is_ignored, other_address}
 use Rattle.pmb_fact_stream.specs.Spans.{after_either, after_open, after_spans, event_place, event_time}
-use Rattle.pmb_fact_stream.specs.Spans.{transactions_in}
+use Rattle.pmb_fact_stream.specs.Spans.{past_in}
 use Rattle.pmb_fact_stream.specs.Stream.{HasToldOf, IsSame, StreamKnows, TellsFacts, stream_choice, stream_time}
 use Rattle.pmb_fact_stream.specs.machine.Begun.{begun_legs, kept_facts}
 use Rattle.pmb_fact_stream.specs.machine.Inside.{HasOneStart}
 use Rattle.pmb_fact_stream.specs.machine.Knowing.{IsCleared, IsCountOf, IsUnderWay, KeepsPacket, KeepsUnderWay}
 use Rattle.pmb_fact_stream.specs.machine.Knowing.{KnowsTimes}
 use Rattle.pmb_fact_stream.proofs.Beginnings.{begins}
-use Rattle.pmb_fact_stream.proofs.Spans.{counts_append, transactions_append}
+use Rattle.pmb_fact_stream.proofs.Spans.{counts_append, past_append}
 use Rattle.pmb_fact_stream.proofs.Standing.{keeps_none, knows_as, whole_line}
 use Rattle.pmb_fact_stream.proofs.Adding.{AddsFacts, FactsAre, facts_behind, facts_more, own_facts}
 use Rattle.pmb_fact_stream.specs.Stream.{kept_by}
@@ -115,7 +116,7 @@ no_other_line ignored events is not =
 
 -- ---- its facts, by what was kept of its START
 
-write_facts_whole : (before : List TransactionData) (place : ℕ → Place) (time : Option (List ℕ)) (n : ℕ)
+write_facts_whole : (before : List PastData) (place : ℕ → Place) (time : Option (List ℕ)) (n : ℕ)
     (rest : List Event)
     (parts : List PartData)
     → length parts ≤ 1
@@ -126,7 +127,7 @@ write_facts_whole before place time n rest [] one = refl
 write_facts_whole before place time n rest (part ∷ []) one = refl
 write_facts_whole before place time n rest (part ∷ next ∷ parts) one = absurd (omega (arith, one))
 
-refused_facts_whole : (before : List TransactionData) (place : ℕ → Place) (time : Option (List ℕ)) (n : ℕ)
+refused_facts_whole : (before : List PastData) (place : ℕ → Place) (time : Option (List ℕ)) (n : ℕ)
     (rest : List Event)
     (parts : List PartData)
     (addr : ℕ) (sent : List ℕ) (at_read : Bool) → length parts ≡ 0
@@ -137,7 +138,7 @@ refused_facts_whole : (before : List TransactionData) (place : ℕ → Place) (t
 refused_facts_whole before place time n rest [] addr sent at_read none = refl
 refused_facts_whole before place time n rest (part ∷ parts) addr sent at_read none = absurd (omega (arith, none))
 
-facts_whole : (before : List TransactionData) (place : ℕ → Place) (time : Option (List ℕ)) (n : ℕ) (rest : List Event)
+facts_whole : (before : List PastData) (place : ℕ → Place) (time : Option (List ℕ)) (n : ℕ) (rest : List Event)
     (t : TransactionData) → HasOneStart t
     → kept_facts before time (begun_legs place n (Start ∷ [])) t ≡ packet_facts before place time n (Start ∷ rest) t
 facts_whole before place time n rest (Write parts) one = write_facts_whole before place time n rest parts one
@@ -194,9 +195,9 @@ whole_adds : (choice : ChoiceData) (b : Before) (reached : Reached)
     → other_address choice.ignored (whole_line rest) ≡ None
     → AddsFacts choice b (reached.text ++ canonical_text (whole_line rest)) reached.spans
     (Open n (Start ∷ [])) (ReadSpan n (whole_line rest) t)
-    (kept_facts (b.ts ++ transactions_in reached.spans) time begun t)
+    (kept_facts (b.past ++ past_in reached.spans) time begun t)
 whole_adds choice b reached time begun n rest t one kept timed none more =
-    let before = b.ts ++ transactions_in reached.spans in
+    let before = b.past ++ past_in reached.spans in
     let place = event_place b.read b.n ((reached.text ++ canonical_text (whole_line rest)) ++ more) in
     let times = event_time b.n ((reached.text ++ canonical_text (whole_line rest)) ++ more) in
     let all : (reached.text ++ codes "S ") ++ (rest_text rest ++ more) ≡
@@ -230,13 +231,13 @@ module _ {K : Type 0} (Keeps : K → Setting → List FactData → Type 0) (b : 
       → StreamKnows (record {
         read = (b.read ++ (reached.text ++ codes "S ")) ++ rest_text rest;
         n = ((b.n + length (reached.events ++ Start ∷ [])) + length rest) + 1;
-        ts = (b.ts ++ transactions_in reached.spans) ++ t ∷ [];
+        past = (b.past ++ past_in reached.spans) ++ Said t ∷ [];
         counts = after_packet (after_open (stream_choice mid.stream).ignored
             (after_spans (stream_choice mid.stream).ignored b.counts reached.spans)
             (standing_after reached.standing Start)) t;
       }) new
       → (keeper : K) (added : List ℕ) → TellsFacts Keeps mid.stream mid.keeper keeper added
-      (kept_facts (b.ts ++ transactions_in reached.spans) (stream_time mid.stream) mid.stream.begun.items t)
+      (kept_facts (b.past ++ past_in reached.spans) (stream_time mid.stream) mid.stream.begun.items t)
       → HasToldOf Keeps b start (kept_by new keeper)
       (behind_whole reached n (canonical_text (whole_line rest)) (whole_line rest) t) (text ++ added)
   told_whole told standing times one none same passing cleared knows keeper added tells =
@@ -292,8 +293,8 @@ module _ {K : Type 0} (Keeps : K → Setting → List FactData → Type 0) (b : 
               (append_assoc b.read (reached.text ++ codes "S ") (rest_text rest)
               ∙ ap (λ (l : List ℕ). b.read ++ l) (append_assoc reached.text (codes "S ") (rest_text rest)))
               (omega (arith, so_far, all, own))
-              (append_assoc b.ts (transactions_in reached.spans) (t ∷ [])
-              ∙ ap (λ (ts : List TransactionData). b.ts ++ ts) (sym (transactions_append reached.spans (span ∷ []))))
+              (append_assoc b.past (past_in reached.spans) (Said t ∷ [])
+              ∙ ap (λ (past : List PastData). b.past ++ past) (sym (past_append reached.spans (span ∷ []))))
               counts_are knows);
           packet = keeps_none b new bytes (n + length (whole_line rest)) (passing ∙ kept.reading) cleared;
           counted = omega (arith, counted, so_far, all, own);
@@ -302,7 +303,7 @@ module _ {K : Type 0} (Keeps : K → Setting → List FactData → Type 0) (b : 
         time = times.time.time;
         told = facts_more (stream_choice start.stream) b bytes reached.spans (Open n (Start ∷ [])) there.standing span
             so_told (TellsFacts Keeps start.stream start.keeper keeper (text ++ added))
-            (kept_facts (b.ts ++ transactions_in reached.spans) (stream_time mid.stream)
+            (kept_facts (b.past ++ past_in reached.spans) (stream_time mid.stream)
             mid.stream.begun.items t) (λ l. refl) before
             (whole_adds (stream_choice start.stream) b reached (stream_time mid.stream) mid.stream.begun.items n rest
             t one kept.begun timed

@@ -5,9 +5,9 @@ use Rattle.pmb_unknown_start.specs.declared.start.Start.{Start}
 use Rattle.pmb_fact_stream.specs.declared.choice.Choice.{Choice}
 use Rattle.pmb_fact_stream.specs.declared.telling.Telling.{Telling}
 
--- The digits after a point, what is known of PAGE and VOUT_MODE at first, the devices whose facts are
--- wanted, all where none is named, the addresses that speak no PMBus, where a profile says which these
--- are, and how facts are told.
+-- The digits after a point, what is known of PAGE and VOUT_MODE at first and after a line that was
+-- dropped, the devices whose facts are wanted, all where none is named, the addresses that speak no
+-- PMBus, where a profile says which these are, and how facts are told.
 pub record ChoiceData : Type 0 where
   pub digits : ℕ
   pub start : Start

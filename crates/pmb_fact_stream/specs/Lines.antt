@@ -11,7 +11,7 @@ use Rattle.pmb_json_objects.specs.Object.{is_wanted, object_lines}
 use Rattle.pmb_json_objects.specs.Seen.{SeenData}
 use Rattle.pmb_json_text.specs.Member.{object_line}
 use Rattle.pmb_log_lines.specs.Line.{line_of}
-use Rattle.pmb_transaction.specs.Transaction.{TransactionData}
+use Rattle.pmb_unknown_start.specs.Past.{PastData}
 use Rattle.pmb_fact_stream.specs.Choice.{ChoiceData, gives_others}
 use Rattle.pmb_fact_stream.specs.declared.telling.Telling.{Telling}
 use Rattle.pmb_fact_stream.specs.declared.telling.Telling.TheVariants.{Objects, Lines, Items, Nothing}
@@ -24,8 +24,8 @@ told_line Items seen head what = item_bytes (item_of seen head what)
 told_line Nothing seen head what = []
 
 module _ (choice : ChoiceData) (profile : List DeviceParts) where
-  -- what is known after some transactions
-  abbrev pub seen_behind : List TransactionData → SeenData
+  -- what is known after what went before
+  abbrev pub seen_behind : List PastData → SeenData
   seen_behind before = record { digits = choice.digits; start = choice.start; profile = profile; before = before }
 
   abbrev pub fact_line : FactData → List ℕ

@@ -18,7 +18,7 @@ use Rattle.pmb_scan.specs.Reached.{Reached}
 use Rattle.pmb_spans.specs.Spans.{Span, ReadSpan, RefusedSpan, TruncatedSpan}
 use Rattle.pmb_transaction.specs.declared.reason.Reason.{Reason}
 use Rattle.pmb_transaction.specs.Reading.{RefusalData}
-use Rattle.pmb_transaction.specs.Transaction.{TransactionData}
+use Rattle.pmb_unknown_start.specs.Past.{PastData, Said}
 use Rattle.pmb_fact_stream.specs.Others.{other_address, span_events}
 
 -- ---- places
@@ -38,11 +38,12 @@ event_time n text at = time_at text (at - n)
 
 -- ---- what was read and counted
 
-abbrev pub transactions_in : List Span → List TransactionData
-transactions_in [] = []
-transactions_in (ReadSpan n events t ∷ spans) = t ∷ transactions_in spans
-transactions_in (RefusedSpan n front event refusal ∷ spans) = transactions_in spans
-transactions_in (TruncatedSpan n front refusal ∷ spans) = transactions_in spans
+-- the transactions of spans, each of which was said
+abbrev pub past_in : List Span → List PastData
+past_in [] = []
+past_in (ReadSpan n events t ∷ spans) = Said t ∷ past_in spans
+past_in (RefusedSpan n front event refusal ∷ spans) = past_in spans
+past_in (TruncatedSpan n front refusal ∷ spans) = past_in spans
 
 -- as a packet or a refusal
 abbrev pub after_reported : CountsData → Span → CountsData
@@ -81,8 +82,8 @@ IsNoneOutside reached end = (n : ℕ) (front : List Event) → reached.standing 
 
 -- ---- facts
 
--- a refused event, or the end, after some transactions: what the packet said before it, why, and what can come
-abbrev pub refusal_fact : List TransactionData → Head → List Event → Option Event → Reason → Kinds → FactData
+-- a refused event, or the end, after what went before: what the packet said before it, why, and what can come
+abbrev pub refusal_fact : List PastData → Head → List Event → Option Event → Reason → Kinds → FactData
 refusal_fact before head front event reason expected =
     record { before = before; head = head; what = Refusal front event reason expected }
 
@@ -94,9 +95,9 @@ abbrev pub bad_token_fact : Head → List ℕ → FactData
 bad_token_fact head word = record { before = []; head = head; what = BadToken (take 32 word) }
 
 module _ (place : ℕ → Place) (times : ℕ → Option (List ℕ)) where
-  -- After some transactions that of an event that was refused, or of the end, in a packet before which n
+  -- After what went before that of an event that was refused, or of the end, in a packet before which n
   -- events came.
-  abbrev pub refused_span : List TransactionData → ℕ → List Event → Option Event → RefusalData → FactData
+  abbrev pub refused_span : List PastData → ℕ → List Event → Option Event → RefusalData → FactData
   refused_span before n front event refusal =
       let at = n + length front in
       refusal_fact before (head_at place (times n) at) front event refusal.reason refusal.expected
@@ -107,12 +108,12 @@ module _ (place : ℕ → Place) (times : ℕ → Option (List ℕ)) where
   other_or n (Some addr) facts = other_fact (head_at place (times n) (n + 1)) addr ∷ []
 
 module _ (ignored : Option (List ℕ)) (place : ℕ → Place) (times : ℕ → Option (List ℕ)) where
-  -- Those of spans, after some transactions. All facts of a span have the time of its first event.
-  abbrev pub span_facts : List TransactionData → List Span → List FactData
+  -- Those of spans, after what went before. All facts of a span have the time of its first event.
+  abbrev pub span_facts : List PastData → List Span → List FactData
   span_facts before [] = []
   span_facts before (ReadSpan n events t ∷ spans) =
       other_or place times n (other_address ignored events) (packet_facts before place (times n) n events t)
-      ++ span_facts (before ++ t ∷ []) spans
+      ++ span_facts (before ++ Said t ∷ []) spans
   span_facts before (RefusedSpan n front event refusal ∷ spans) =
       other_or place times n (other_address ignored (front ++ event ∷ []))
       (refused_span place times before n front (Some event) refusal ∷ []) ++ span_facts before spans

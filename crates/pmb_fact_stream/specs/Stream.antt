@@ -40,7 +40,7 @@ abbrev pub HoldsOf : ChoiceData → Before → Reached → (List FactData → Ty
 HoldsOf choice b reached Holds =
     (more : List ℕ) → Holds
     (span_facts choice.ignored (event_place b.read b.n (reached.text ++ more)) (event_time b.n (reached.text ++ more))
-    b.ts (moved_spans b.n reached.spans)
+    b.past (moved_spans b.n reached.spans)
     ++ open_facts choice.ignored (event_place b.read b.n (reached.text ++ more))
     (event_time b.n (reached.text ++ more)) b.n reached.standing)
 

@@ -14,7 +14,7 @@ use pmb_unknown_start::Start;
 pub struct Choice<'c> {
     /// The most digits after the point of a number.
     pub digits: Digits,
-    /// What is known of PAGE and VOUT_MODE where the capture begins.
+    /// What is known of PAGE and VOUT_MODE where the capture begins, and after a line that was dropped.
     pub start: Start,
     /// The addresses of the devices whose facts are wanted, of seven bits; all where there is none.
     /// Facts that name no device are always wanted.

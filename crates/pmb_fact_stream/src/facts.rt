@@ -54,7 +54,7 @@ impl<'p> Stream<'p> {
     ) -> Result<(), RunFault>
         requires few { IsShort what }
         ensures puts { (some : Before) (known : WhatData) → StreamKnows some self.now → Stands what.entry known
-            → OnOk result (PutsFacts K.Keeps self.now keeper.old keeper.new (λ b. kept_at (before_fact b.ts known) (stream_time self.now) index self.now.begun.items known) (W.told writer.old).held waiting.old.items (W.told writer.new).held waiting.new.items) }
+            → OnOk result (PutsFacts K.Keeps self.now keeper.old keeper.new (λ b. kept_at (before_fact b.past known) (stream_time self.now) index self.now.begun.items known) (W.told writer.old).held waiting.old.items (W.told writer.new).held waiting.new.items) }
         ensures failed { WriterTells (W.told writer.old) (W.told writer.new) result }
     {
         let Some(begun) = self.begun_at(index) else {

@@ -11,7 +11,7 @@ ghost use Rattle.pmb_reader.specs.declared.refusal.Refusal.{Refusal};
 ghost use Rattle.pmb_scan.specs.Reached.{Reached};
 ghost use Rattle.pmb_scan.specs.Scan.{end_spans};
 ghost use Rattle.pmb_spans.specs.Spans.{Span, is_whole, moved_spans};
-ghost use Rattle.pmb_transaction.specs.Transaction.{TransactionData};
+ghost use Rattle.pmb_unknown_start.specs.Past.{PastData};
 ghost use Rattle.pmb_fact_stream.specs.Choice.{ChoiceData};
 ghost use Rattle.pmb_fact_stream.specs.Lines.{fact_lines, last_lines};
 ghost use Rattle.pmb_fact_stream.specs.Others.{is_told, is_untold};
@@ -34,10 +34,10 @@ pub fn open_times_stay()
 /// Of the spans of an end those are told whose fact was out before: an other that is under way.
 /// What is put out at the end is the rest. All spans but an end inside a packet are told.
 pub fn others_are_told()
-    ensures facts { (ignored : Option (List ℕ)) (place : ℕ → Place) (times : ℕ → Option (List ℕ)) (before : List TransactionData) (m : ℕ) (reached : Reached) (end : Option Refusal)
+    ensures facts { (ignored : Option (List ℕ)) (place : ℕ → Place) (times : ℕ → Option (List ℕ)) (before : List PastData) (m : ℕ) (reached : Reached) (end : Option Refusal)
         → IsNoneOutside reached end
         → span_facts ignored place times before (moved_spans m (filter (is_told ignored) (end_spans reached.standing end))) ≡ open_facts ignored place times m reached.standing }
-    ensures rest { (ignored : Option (List ℕ)) (place : ℕ → Place) (times : ℕ → Option (List ℕ)) (before : List TransactionData) (m : ℕ) (reached : Reached) (end : Option Refusal)
+    ensures rest { (ignored : Option (List ℕ)) (place : ℕ → Place) (times : ℕ → Option (List ℕ)) (before : List PastData) (m : ℕ) (reached : Reached) (end : Option Refusal)
         → IsNoneOutside reached end
         → open_facts ignored place times m reached.standing ++ span_facts ignored place times before (moved_spans m (filter (is_untold ignored) (end_spans reached.standing end)))
         ≡ span_facts ignored place times before (moved_spans m (end_spans reached.standing end)) }

@@ -29,7 +29,7 @@ impl<'p> Stream<'p> {
         waiting: &mut Waiting,
         writer: &mut W,
     ) -> Result<(), RunFault>
-        ensures puts { (some : Before) → StreamKnows some self.now → OnOk result (PutsFacts K.Keeps self.now keeper.old keeper.new (λ b. kept_facts b.ts (stream_time self.now) self.now.begun.items (transaction_data transaction.now)) (W.told writer.old).held waiting.old.items (W.told writer.new).held waiting.new.items) }
+        ensures puts { (some : Before) → StreamKnows some self.now → OnOk result (PutsFacts K.Keeps self.now keeper.old keeper.new (λ b. kept_facts b.past (stream_time self.now) self.now.begun.items (transaction_data transaction.now)) (W.told writer.old).held waiting.old.items (W.told writer.new).held waiting.new.items) }
         ensures failed { WriterTells (W.told writer.old) (W.told writer.new) result }
     {
         match transaction {
@@ -109,7 +109,7 @@ impl<'p> Stream<'p> {
         writer: &mut W,
     ) -> Result<(), RunFault>
         requires few { length parts.now ≤ 16 }
-        ensures puts { (some : Before) → StreamKnows some self.now → OnOk result (PutsFacts K.Keeps self.now keeper.old keeper.new (λ b. kept_writes b.ts (stream_time self.now) 1 count self.now.begun.items (map part_data parts.now)) (W.told writer.old).held waiting.old.items (W.told writer.new).held waiting.new.items) }
+        ensures puts { (some : Before) → StreamKnows some self.now → OnOk result (PutsFacts K.Keeps self.now keeper.old keeper.new (λ b. kept_writes b.past (stream_time self.now) 1 count self.now.begun.items (map part_data parts.now)) (W.told writer.old).held waiting.old.items (W.told writer.new).held waiting.new.items) }
         ensures failed { WriterTells (W.told writer.old) (W.told writer.new) result }
     {
         for index in 0..parts.len() {

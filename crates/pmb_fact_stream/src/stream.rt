@@ -1,7 +1,8 @@
 //! What is known of a capture so far.
 //!
 //! A `Stream` outlasts the scans of a capture: where a word is no token and reading begins anew, it
-//! keeps its places, its counts, and what it knows of PAGE and VOUT_MODE.
+//! keeps its places and its counts. What the dropped line said of PAGE, PHASE and VOUT_MODE is not known:
+//! these are unknown again where its `Late` says so.
 //!
 //! Its rows: `tests/rows/json_objects.txt`.
 
@@ -10,7 +11,7 @@ ghost use Rattle.pmb_bus.specs.Text.{EndsBetween, open_word};
 ghost use Rattle.pmb_io.specs.Tally.{IsTallyOf};
 ghost use Rattle.pmb_json_objects.specs.Head.{head_of};
 ghost use Rattle.pmb_json_objects.specs.Sees.{Sees};
-ghost use Rattle.pmb_fact_stream.specs.Before.{Before, at_first, with_bytes};
+ghost use Rattle.pmb_fact_stream.specs.Before.{Before, at_first, drop_line, with_bytes};
 ghost use Rattle.pmb_fact_stream.specs.Choice.{choice_data};
 ghost use Rattle.pmb_fact_stream.specs.Stream.{IsSame, StreamBegins, StreamKnows, stream_choice, stream_profile, stream_tally, stream_time};
 ghost use Rattle.pmb_fact_stream.specs.machine.Begun.{begun_head};
@@ -161,16 +162,17 @@ impl<'p> Stream<'p> {
         self.times.take(bytes);
     }
 
-    /// Begins anew between two words, at the start of a line: the packet under way is dropped, and
-    /// no time is known.
+    /// Begins anew between two words, behind a line that was dropped: the packet under way is dropped
+    /// too, and no time is known, nor what the line did.
     pub fn begin_anew(&mut self)
-        ensures begins { (b : Before) → StreamKnows b self.old → EndsBetween b.read → StreamBegins b self.new }
+        ensures begins { (b : Before) → StreamKnows b self.old → EndsBetween b.read → StreamBegins (drop_line b) self.new }
         ensures same { IsSame self.old self.new }
     {
         self.clear();
         self.passing = false;
         self.times = Times::new();
         self.time = OpenTime::new();
+        self.late.drop_line();
     }
 
     /// Forgets the packet under way.

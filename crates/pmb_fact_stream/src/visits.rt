@@ -17,6 +17,7 @@ ghost use Rattle.pmb_partial_packet.specs.Standing.{SaidStandsAt};
 ghost use Rattle.pmb_scan.specs.Reached.{MayGoOn, Reached, behind_event, standing_after};
 ghost use Rattle.pmb_times.specs.Times.{TimesStandAt};
 ghost use Rattle.pmb_transaction.specs.Transaction.{transaction_data};
+ghost use Rattle.pmb_unknown_start.specs.Past.{Said};
 ghost use Rattle.pmb_fact_stream.specs.declared.kept_stream.KeptStream.{KeptStream as Kept};
 ghost use Rattle.pmb_fact_stream.specs.Before.{Before};
 ghost use Rattle.pmb_io.specs.Calls.{WriterTells};
@@ -119,7 +120,7 @@ impl<'p> Stream<'p> {
     /// Takes the transaction of the packet that ends, and forgets the packet.
     pub(crate) fn take_packet(&mut self, transaction: &Transaction)
         ensures knows { (b : Before) → StreamKnows b self.old
-            → StreamKnows (record b { n = b.n + 1; ts = b.ts ++ transaction_data transaction.now ∷ []; counts = after_packet b.counts (transaction_data transaction.now) }) self.new }
+            → StreamKnows (record b { n = b.n + 1; past = b.past ++ Said (transaction_data transaction.now) ∷ []; counts = after_packet b.counts (transaction_data transaction.now) }) self.new }
         ensures cleared { IsCleared self.new }
         ensures same { IsSame self.old self.new }
         ensures passing { self.new.passing ≡ self.old.passing }
@@ -134,7 +135,7 @@ impl<'p> Stream<'p> {
     /// Takes STOP and the transaction of the packet that it ends, and forgets the packet.
     fn end_packet(&mut self, transaction: &Transaction)
         ensures knows { (b : Before) → StreamKnows b self.old
-            → StreamKnows (record b { n = b.n + 1; ts = b.ts ++ transaction_data transaction.now ∷ [] }) self.new }
+            → StreamKnows (record b { n = b.n + 1; past = b.past ++ Said (transaction_data transaction.now) ∷ [] }) self.new }
         ensures cleared { IsCleared self.new }
         ensures same { IsSame self.old self.new }
         ensures passing { self.new.passing ≡ self.old.passing }

@@ -6,7 +6,8 @@ use Rattle.pmb_json_objects.specs.Head.{Head}
 use Rattle.pmb_partial_packet.specs.PartialPacket.{said_device, sent, written_to}
 use Rattle.pmb_facts.specs.declared.fact.CommandAt.{CommandAt}
 use Rattle.pmb_transaction.specs.declared.reason.Reason.{Reason}
-use Rattle.pmb_transaction.specs.Transaction.{AlertData, CallData, PartData, ReadData, TransactionData}
+use Rattle.pmb_transaction.specs.Transaction.{AlertData, CallData, PartData, ReadData}
+use Rattle.pmb_unknown_start.specs.Past.{PastData}
 
 -- One fact.
 pub data WhatData : Type 0 where
@@ -27,9 +28,9 @@ pub data WhatData : Type 0 where
   -- a word that is no token
   BadToken : List ℕ → WhatData
 
--- .. with the transactions before its packet, and where and when it begins
+-- .. with what went before its packet, and where and when it begins
 pub record FactData : Type 0 where
-  pub before : List TransactionData
+  pub before : List PastData
   pub head : Head
   pub what : WhatData
 

@@ -6,11 +6,12 @@ use Rattle.pmb_json_objects.specs.Packets.{starts}
 use Rattle.pmb_places.specs.declared.places.Place.{Place}
 use Rattle.pmb_transaction.specs.Transaction.{PartData, RefusedData, TransactionData}
 use Rattle.pmb_transaction.specs.Transaction.{Write, Read, Call, Refused, Alert, NoAlert}
+use Rattle.pmb_unknown_start.specs.Past.{PastData}
 use Rattle.pmb_facts.specs.Fact.{FactData, WhatData}
 use Rattle.pmb_facts.specs.Fact as fact
 
--- after some transactions, by the place of each event and the packet's time
-module _ (before : List TransactionData) (place : ℕ → Place) (time : Option (List ℕ)) where
+-- after what went before, by the place of each event and the packet's time
+module _ (before : List PastData) (place : ℕ → Place) (time : Option (List ℕ)) where
   -- a fact that begins with the event with a number
   abbrev pub fact_at : ℕ → WhatData → FactData
   fact_at at what = record { before = before; head = head_at place time at; what = what }

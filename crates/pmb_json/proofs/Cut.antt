@@ -1,9 +1,9 @@
 -- The facts of a piece of a capture beside those of the whole: the whole has as many, and what holds of
--- facts at other places, with more transactions before them, holds of them (`HoldsAcross`). For the laws
+-- facts at other places, with more that went before them, holds of them (`HoldsAcross`). For the laws
 -- `texts_of_pieces_say_no_more` and `pieces_say_the_same`. First after any point of the piece
 -- (`onwards`), then for a piece that begins after a cut (`cut`). Events of the piece are counted
--- from the cut, so its spans are moved; the transactions before the cut come before its facts in the
--- whole alone.
+-- from the cut, so its spans are moved; what went before the cut comes before its facts in the whole
+-- alone.
 use Rattle.std.proofs.Common.{◌≡◌, ℕ, ◌+◌, ◌-◌, true, Option, List, [], ◌∷◌, ◌++◌, filter}
 use Rattle.std.proofs.Common.{length, refl}
 use Rattle.std.proofs.Common.{sym, ◌∙◌, ap, subst, append_assoc, append-nil, length-append, arith}
@@ -16,7 +16,6 @@ use Rattle.pmb_command.specs.Parts.{DeviceParts}
 use Rattle.pmb_places.specs.declared.places.Place.{Place}
 use Rattle.pmb_spans.specs.Spans.{Span, Spans, SpansFrom, is_whole, moved_spans}
 use Rattle.pmb_transaction.specs.Cut.{EndsWithStop}
-use Rattle.pmb_transaction.specs.Transaction.{TransactionData}
 use Rattle.pmb_scan.specs.declared.after_bad_token.AfterBadToken.{AfterBadToken}
 use Rattle.pmb_scan.specs.declared.after_bad_token.AfterBadToken.TheVariants.{End, Continue}
 use Rattle.pmb_fact_stream.specs.Before.{Before, at_first}
@@ -25,24 +24,24 @@ use Rattle.pmb_json_objects.specs.Counts.{CountsData, nothing_counted}
 use Rattle.pmb_json_objects.specs.Head.{Head}
 use Rattle.pmb_facts.specs.Fact.{FactData}
 use Rattle.pmb_json.specs.Pieces.{Timing}
-use Rattle.pmb_fact_stream.specs.Spans.{after_spans, bad_token_fact, event_place, event_time, span_facts}
-use Rattle.pmb_fact_stream.specs.Spans.{transactions_in}
+use Rattle.pmb_fact_stream.specs.Spans.{after_spans, bad_token_fact, event_place, event_time, past_in, span_facts}
 use Rattle.pmb_fact_stream.specs.UnderWay.{open_time}
 use Rattle.pmb_times.specs.Times.{time_at}
 use Rattle.pmb_telling.specs.Text.{BadLine, FactsFrom, GoesOn, bad_line_facts, behind_line, front_facts}
 use Rattle.pmb_telling.specs.Text.{text_facts, word_fact, word_head}
+use Rattle.pmb_unknown_start.specs.Past.{PastData, Dropped}
 use Rattle.pmb_json.proofs.PieceMembers.{TellEach, Tells}
 use Rattle.pmb_json.proofs.PieceTimes.{open_tells, piece_tells, tells_same}
-use Rattle.pmb_telling.proofs.Facts.{all_told, facts_append, told_moved, transactions_append, transactions_moved}
+use Rattle.pmb_telling.proofs.Facts.{all_told, facts_append, past_append, past_moved, told_moved}
 
--- What holds of facts of a piece and those of the whole beside them, before which m events and some
--- transactions more come: it holds of none, of both of two lists, of the facts of spans, and of a word that
+-- What holds of facts of a piece and those of the whole beside them, before which m events more come, and
+-- what is said in them: it holds of none, of both of two lists, of the facts of spans, and of a word that
 -- is no token.
-pub record HoldsAcross (ignored : Option (List ℕ)) (timing : Timing) (m : ℕ) (before : List TransactionData)
+pub record HoldsAcross (ignored : Option (List ℕ)) (timing : Timing) (m : ℕ) (before : List PastData)
     (Holds : List FactData → List FactData → Type 0) : Type 0 where
   pub none : Holds [] []
   pub both : (a b c d : List FactData) → Holds a b → Holds c d → Holds (a ++ c) (b ++ d)
-  pub spans : (place there : ℕ → Place) (times theirs : ℕ → Option (List ℕ)) (x y : List TransactionData)
+  pub spans : (place there : ℕ → Place) (times theirs : ℕ → Option (List ℕ)) (x y : List PastData)
       → y ≡ before ++ x → TellEach timing m times theirs → (spans : List Span)
       → Holds (span_facts ignored place times x spans) (span_facts ignored there theirs y (moved_spans m spans))
   pub word : (head there : Head) → Tells timing head.time there.time → (word : List ℕ)
@@ -65,15 +64,15 @@ pub record CutLaws (profile : List DeviceParts) : Type 0 where
       → All (λ span. is_whole span ≡ true) spans
 
 module _ (ignored : Option (List ℕ)) (timing : Timing) (profile : List DeviceParts) (laws : CutLaws profile) (m : ℕ)
-    (before : List TransactionData) (Holds : List FactData → List FactData → Type 0)
+    (before : List PastData) (Holds : List FactData → List FactData → Type 0)
     (holds : HoldsAcross ignored timing m before Holds) where
-  -- where the piece stands and where the whole does, with m events and some transactions before the
+  -- where the piece stands and where the whole does, with m events and what is said in them before the
   -- piece
   record Beside (b w : Before) : Type 0 where
     -- events are counted from the cut in the piece, from the front in the whole
     n : w.n ≡ m + b.n
-    -- the whole has the transactions before the cut too
-    ts : w.ts ≡ before ++ b.ts
+    -- the whole has what went before the cut too
+    past : w.past ≡ before ++ b.past
 
   -- the same bytes tell the same times
   times_beside : (b w : Before) → Beside b w → (bytes : List ℕ)
@@ -83,10 +82,10 @@ module _ (ignored : Option (List ℕ)) (timing : Timing) (profile : List DeviceP
       tells_same timing (time_at bytes (at - b.n)) (time_at bytes ((m + at) - w.n)) (ap (time_at bytes) same)
 
   spans_beside : (b w : Before) → Beside b w → (bytes : List ℕ) (spans : List Span)
-      → Holds (text_facts ignored b bytes b.ts spans) (text_facts ignored w bytes w.ts (moved_spans m spans))
+      → Holds (text_facts ignored b bytes b.past spans) (text_facts ignored w bytes w.past (moved_spans m spans))
   spans_beside b w beside bytes spans =
       holds.spans (event_place b.read b.n bytes) (event_place w.read w.n bytes) (event_time b.n bytes)
-      (event_time w.n bytes) b.ts w.ts beside.ts (times_beside b w beside bytes) spans
+      (event_time w.n bytes) b.past w.past beside.past (times_beside b w beside bytes) spans
 
   reads_beside : (b w : Before) → Beside b w → (events : List Event) (spans : List Span)
       → SpansFrom profile b.n events spans
@@ -155,9 +154,12 @@ module _ (ignored : Option (List ℕ)) (timing : Timing) (profile : List DeviceP
       (record { front = bad.front; events = bad.events; spans = moved_spans m bad.spans; line = bad.line }))
   line_beside b w beside bad = record {
     n = omega (arith, beside.n);
-    ts = ap (λ (l : List TransactionData). l ++ transactions_in (moved_spans m bad.spans)) beside.ts
-        ∙ ap (λ (l : List TransactionData). (before ++ b.ts) ++ l) (transactions_moved m bad.spans)
-        ∙ append_assoc before b.ts (transactions_in bad.spans);
+    past =
+        ap (λ (l : List PastData). l ++ Dropped ∷ [])
+        (ap (λ (l : List PastData). l ++ past_in (moved_spans m bad.spans)) beside.past
+        ∙ ap (λ (l : List PastData). (before ++ b.past) ++ l) (past_moved m bad.spans)
+        ∙ append_assoc before b.past (past_in bad.spans))
+        ∙ append_assoc before (b.past ++ past_in bad.spans) (Dropped ∷ []);
   }
 
   onwards : (after : AfterBadToken) (bads : List BadLine) (b w : Before) → Beside b w
@@ -166,7 +168,7 @@ module _ (ignored : Option (List ℕ)) (timing : Timing) (profile : List DeviceP
   -- no bad line is left: the events that are left, moved
   onwards after [] b w beside bytes facts c x = record {
     bad = [];
-    others = text_facts ignored w bytes w.ts (moved_spans m x.spans);
+    others = text_facts ignored w bytes w.past (moved_spans m x.spans);
     counts = after_spans ignored w.counts (moved_spans m x.spans);
     from_there = record {
       events = x.events;
@@ -176,7 +178,7 @@ module _ (ignored : Option (List ℕ)) (timing : Timing) (profile : List DeviceP
       all = refl;
       behind = refl;
     };
-    beside = subst (λ (os : List FactData). Holds os (text_facts ignored w bytes w.ts (moved_spans m x.spans)))
+    beside = subst (λ (os : List FactData). Holds os (text_facts ignored w bytes w.past (moved_spans m x.spans)))
         (sym x.all) (spans_beside b w beside bytes x.spans);
   }
   -- a bad line: its events are moved, then the rest of both after it
@@ -241,7 +243,7 @@ firsts_in ignored spans text = text_facts ignored at_first text [] spans
 
 module _ (ignored : Option (List ℕ)) (timing : Timing) (profile : List DeviceParts) (laws : CutLaws profile)
     (front : List ℕ) (first : FirstPiece profile front) (Holds : List FactData → List FactData → Type 0)
-    (holds : HoldsAcross ignored timing (length first.cut.events) (transactions_in first.spans) Holds)
+    (holds : HoldsAcross ignored timing (length first.cut.events) (past_in first.spans) Holds)
     (tells : (back : List ℕ) (k : ℕ) → Tells timing (time_at back k)
     (time_at (front ++ back) (length first.cut.events + k))) where
   abbrev own : List Event
@@ -250,8 +252,8 @@ module _ (ignored : Option (List ℕ)) (timing : Timing) (profile : List DeviceP
   abbrev m : ℕ
   m = length own
 
-  abbrev before : List TransactionData
-  before = transactions_in first.spans
+  abbrev before : List PastData
+  before = past_in first.spans
 
   -- The whole has the facts of the first piece, by its text or by that up to where its first bad line ends,
   -- and then others, of which it holds.
@@ -303,8 +305,11 @@ module _ (ignored : Option (List ℕ)) (timing : Timing) (profile : List DeviceP
       (behind_line ignored at_first bad) (behind_line ignored at_first (in_whole bad))
   line_beside_there bad = record {
     n = omega (arith, length-append own bad.events);
-    ts = transactions_append first.spans (moved_spans m bad.spans) ∙ ap (λ (l : List TransactionData). before ++ l)
-        (transactions_moved m bad.spans);
+    past =
+        ap (λ (l : List PastData). l ++ Dropped ∷ [])
+        (past_append first.spans (moved_spans m bad.spans)
+        ∙ ap (λ (l : List PastData). before ++ l) (past_moved m bad.spans))
+        ∙ append_assoc before (past_in bad.spans) (Dropped ∷ []);
   }
 
   pub cut : (after : AfterBadToken) (bads : List BadLine) (back : List ℕ) (facts : List FactData) (c : CountsData)

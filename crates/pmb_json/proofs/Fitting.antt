@@ -15,6 +15,7 @@ use Rattle.pmb_fact_stream.specs.Choice.{ChoiceData}
 use Rattle.pmb_fact_stream.specs.Lines.{seen_behind}
 use Rattle.pmb_transaction.specs.Packet.{Packet}
 use Rattle.pmb_transaction.specs.Transaction.{PartData, TransactionData, Write, Read, Call, Refused, Alert, NoAlert}
+use Rattle.pmb_unknown_start.specs.Past.{PastData}
 use Rattle.pmb_json.proofs.EachOf.{the_found}
 use Rattle.pmb_json.proofs.Telling.{AllTellBytes, HaveBytes, page_is_byte, parts_have_bytes, phase_is_byte}
 
@@ -31,10 +32,10 @@ of_kind code (Some device) is =
     the_found (λ (c : CommandParts). IsOfWords c.entry.kind) (λ c. nat_eq c.entry.code code) device.commands
     is.commands
 
--- ---- after transactions that tell bytes
+-- ---- after what tells bytes
 
 module _ (choice : ChoiceData) (profile : List DeviceParts) (bus : IsBus profile) (formats : AllMakeFormats profile)
-    (before : List TransactionData) (tell : AllTellBytes before) where
+    (before : List PastData) (tell : AllTellBytes before) where
   pub device_is_seen : (addr : ℕ) → IsSeen (seen_behind choice profile before) addr
   device_is_seen addr = record {
     bus = bus;

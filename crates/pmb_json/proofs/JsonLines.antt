@@ -23,16 +23,17 @@ use Rattle.pmb_places.specs.Text.{place_behind}
 use Rattle.pmb_fact_stream.specs.Others.{is_told}
 use Rattle.pmb_fact_stream.specs.Before.{Before, at_first}
 use Rattle.pmb_fact_stream.specs.Choice.{ChoiceData, gives_others}
-use Rattle.pmb_fact_stream.specs.Spans.{transactions_in}
+use Rattle.pmb_fact_stream.specs.Spans.{past_in}
 use Rattle.pmb_telling.specs.SoFar.{HasTold, IsOutOf, SoFarFrom}
 use Rattle.pmb_telling.specs.Text.{BadLine, FactsFrom, GoesOn, IsBadLine, WritesTold, bad_line_facts, behind_line}
 use Rattle.pmb_telling.specs.Text.{front_facts, word_fact, word_head}
 use Rattle.pmb_telling.proofs.Words.{each_of_word}
+use Rattle.pmb_unknown_start.specs.Past.{Dropped}
 use Rattle.pmb_json.proofs.EachOf.{each_filtered, each_of_both, each_of_first, each_of_second, each_taken}
 use Rattle.pmb_json.proofs.JsonSpans.{AllSayPackets, AreJson, Below, IsJson, SaysPacket, TellJson, few, place_fits}
 use Rattle.pmb_json.proofs.JsonSpans.{open_time_fits, spans_are_json, spans_say_packets, spans_tell_bytes}
 use Rattle.pmb_json.proofs.Objects.{each_of_both_facts}
-use Rattle.pmb_json.proofs.Telling.{AllTellBytes, TellsBytes}
+use Rattle.pmb_json.proofs.Telling.{AllTellBytes, PastTellsBytes}
 
 -- ---- the lines of objects
 
@@ -101,14 +102,14 @@ module _ (below : Below) (choice : ChoiceData) (profile : List DeviceParts) (bus
     (formats : AllMakeFormats profile) where
   -- ---- a bad line
 
-  module _ (b : Before) (bad : BadLine) (tell : AllTellBytes b.ts) (is : IsBadLine choice.ignored profile b bad) where
+  module _ (b : Before) (bad : BadLine) (tell : AllTellBytes b.past) (is : IsBadLine choice.ignored profile b bad) where
     say_packets : AllSayPackets profile bad.spans
     say_packets = subst (AllSayPackets profile) (sym is.reported)
         (each_filtered (SaysPacket profile) (is_told choice.ignored) is.all
         (spans_say_packets profile b.n bad.events is.all is.reads))
 
     front_is_json : TellJson choice profile (front_facts choice.ignored b bad)
-    front_is_json = spans_are_json below choice profile bus formats b (bad.front ++ bad.line) b.ts tell bad.spans
+    front_is_json = spans_are_json below choice profile bus formats b (bad.front ++ bad.line) b.past tell bad.spans
         say_packets
 
     bad_line_is_json : AreBytes bad.line → TellJson choice profile (bad_line_facts choice.ignored b bad)
@@ -125,9 +126,11 @@ module _ (below : Below) (choice : ChoiceData) (profile : List DeviceParts) (bus
           tt,
         )
 
-    behind_tells_bytes : AllTellBytes (behind_line choice.ignored b bad).ts
-    behind_tells_bytes = each_of_both TellsBytes b.ts (transactions_in bad.spans) tell
-        (spans_tell_bytes profile bad.spans say_packets)
+    behind_tells_bytes : AllTellBytes (behind_line choice.ignored b bad).past
+    behind_tells_bytes =
+        each_of_both PastTellsBytes (b.past ++ past_in bad.spans) (Dropped ∷ [])
+        (each_of_both PastTellsBytes b.past (past_in bad.spans) tell
+        (spans_tell_bytes profile bad.spans say_packets)) (tt, tt)
 
   -- ---- a whole text
 
@@ -145,10 +148,10 @@ module _ (below : Below) (choice : ChoiceData) (profile : List DeviceParts) (bus
   rest_is_json Continue b bad more (lf ∷ bytes) others counts later small is = later bytes small.1 is
 
   facts_are_json : (after : AfterBadToken) (b : Before) (bytes : List ℕ) (bad : List BadLine) (facts : List FactData)
-      (counts : CountsData) → AllTellBytes b.ts → AreBytes bytes
+      (counts : CountsData) → AllTellBytes b.past → AreBytes bytes
       → FactsFrom choice.ignored profile after b bytes bad facts counts → TellJson choice profile facts
   facts_are_json after b bytes [] facts counts tell small reads =
-      subst (TellJson choice profile) (sym reads.all) (spans_are_json below choice profile bus formats b bytes b.ts tell
+      subst (TellJson choice profile) (sym reads.all) (spans_are_json below choice profile bus formats b bytes b.past tell
       reads.spans (spans_say_packets profile b.n reads.events reads.spans reads.reads))
   facts_are_json after b bytes (bad ∷ more) facts counts tell small reads =
       let cut = bytes_of bytes bad.front bad.line reads.0 reads.2 small in
@@ -173,7 +176,7 @@ module _ (below : Below) (choice : ChoiceData) (profile : List DeviceParts) (bus
 
   -- ---- a text so far
 
-  out_is_json : (b : Before) (bad : BadLine) (rest : List ℕ) (facts : List FactData) → AllTellBytes b.ts
+  out_is_json : (b : Before) (bad : BadLine) (rest : List ℕ) (facts : List FactData) → AllTellBytes b.past
       → IsBadLine choice.ignored profile b bad → AreBytes bad.line
       → IsOutOf choice.ignored b bad rest facts → TellJson choice profile facts
   out_is_json b bad rest facts tell is small (inl waits) =
@@ -186,7 +189,7 @@ module _ (below : Below) (choice : ChoiceData) (profile : List DeviceParts) (bus
       → ((behind : List ℕ) (others : List FactData) → AreBytes behind
       → SoFarFrom choice.ignored profile Continue (behind_line choice.ignored b bad) behind more others
       → TellJson choice profile others)
-      → AllTellBytes b.ts → IsBadLine choice.ignored profile b bad → AreBytes bad.line → AreBytes rest
+      → AllTellBytes b.past → IsBadLine choice.ignored profile b bad → AreBytes bad.line → AreBytes rest
       → GoesOn after rest (λ behind. (others : List FactData)
       × (facts ≡ bad_line_facts choice.ignored b bad ++ others)
       × SoFarFrom choice.ignored profile after (behind_line choice.ignored b bad) behind more others)
@@ -202,11 +205,11 @@ module _ (below : Below) (choice : ChoiceData) (profile : List DeviceParts) (bus
       (bad_line_is_json b bad tell is line) (later bytes so_far.0 small.1 so_far.2))
 
   so_far_is_json : (after : AfterBadToken) (b : Before) (bytes : List ℕ) (bad : List BadLine) (facts : List FactData)
-      → AllTellBytes b.ts → AreBytes bytes
+      → AllTellBytes b.past → AreBytes bytes
       → SoFarFrom choice.ignored profile after b bytes bad facts → TellJson choice profile facts
   so_far_is_json after b bytes [] facts tell small reads =
       subst (TellJson choice profile) (sym reads.all)
-      (spans_are_json below choice profile bus formats b bytes b.ts tell (filter (is_told choice.ignored) reads.spans)
+      (spans_are_json below choice profile bus formats b bytes b.past tell (filter (is_told choice.ignored) reads.spans)
       (each_filtered (SaysPacket profile) (is_told choice.ignored) reads.spans
       (spans_say_packets profile b.n reads.events reads.spans reads.reads)))
   so_far_is_json after b bytes (bad ∷ more) facts tell small reads =

@@ -32,8 +32,7 @@ use Rattle.pmb_fact_stream.specs.Before.{Before}
 use Rattle.pmb_fact_stream.specs.Choice.{ChoiceData}
 use Rattle.pmb_fact_stream.specs.Others.{other_address}
 use Rattle.pmb_fact_stream.specs.Lines.{seen_behind}
-use Rattle.pmb_fact_stream.specs.Spans.{event_place, event_time, other_or, refused_span, span_facts}
-use Rattle.pmb_fact_stream.specs.Spans.{transactions_in}
+use Rattle.pmb_fact_stream.specs.Spans.{event_place, event_time, other_or, past_in, refused_span, span_facts}
 use Rattle.pmb_fact_stream.specs.UnderWay.{open_time, time_of_some, under_way, up_to_stop}
 use Rattle.pmb_times.specs.Line.{IsTime as IsPlainTime}
 use Rattle.pmb_times.specs.Times.{time_at}
@@ -41,10 +40,11 @@ use Rattle.pmb_transaction.specs.declared.reason.Reason.{Reason}
 use Rattle.pmb_transaction.specs.Packet.{Packet}
 use Rattle.pmb_transaction.specs.Reading.{RefusalData}
 use Rattle.pmb_transaction.specs.Transaction.{TransactionData}
+use Rattle.pmb_unknown_start.specs.Past.{PastData, Said}
 use Rattle.pmb_json.proofs.EachOf.{each_of_both, of_any, the_one_at}
 use Rattle.pmb_json.proofs.Fitting.{device_is_seen, packet_fits}
 use Rattle.pmb_json.proofs.Objects.{PacketsHaveObjects, each_of_both_facts, packet_is}
-use Rattle.pmb_json.proofs.Telling.{AllTellBytes, TellsBytes, packets_tell_bytes}
+use Rattle.pmb_json.proofs.Telling.{AllTellBytes, PastTellsBytes, packets_tell_bytes}
 use Rattle.pmb_json.proofs.TimeBytes.{times_have_bytes}
 
 abbrev pub IsJson : Object → Type 0
@@ -129,7 +129,7 @@ module _ (profile : List DeviceParts) where
       (tt, spans_say_packets (n + length front + length reads.4) reads.5 more reads.7)
   spans_say_packets n events (TruncatedSpan m front refusal ∷ more) reads = (tt, subst AllSayPackets (sym reads.3) tt)
 
-  pub spans_tell_bytes : (spans : List Span) → AllSayPackets spans → AllTellBytes (transactions_in spans)
+  pub spans_tell_bytes : (spans : List Span) → AllSayPackets spans → AllTellBytes (past_in spans)
   spans_tell_bytes [] say = tt
   spans_tell_bytes (ReadSpan n events t ∷ spans) say =
       (packets_tell_bytes profile t events say.0, spans_tell_bytes spans say.1)
@@ -146,7 +146,7 @@ module _ (below : Below) (choice : ChoiceData) (profile : List DeviceParts) (bus
     (formats : AllMakeFormats profile) where
   module _ (place : ℕ → Place) (placed : (at : ℕ) → IsPlace (place at)) (times : ℕ → Option (List ℕ))
       (timed : (at : ℕ) → IsTime (times at)) where
-    refusal_is_json : (before : List TransactionData) → AllTellBytes before
+    refusal_is_json : (before : List PastData) → AllTellBytes before
         → (n : ℕ) (front : List Event) (event : Option Event) (refusal : RefusalData)
         → TellJson choice profile (refused_span place times before n front event refusal ∷ [])
     refusal_is_json before tell n front event refusal =
@@ -168,7 +168,7 @@ module _ (below : Below) (choice : ChoiceData) (profile : List DeviceParts) (bus
       tt,
     )
 
-    packet_is_json : (before : List TransactionData) → AllTellBytes before → (n : ℕ) (events : List Event)
+    packet_is_json : (before : List PastData) → AllTellBytes before → (n : ℕ) (events : List Event)
         (t : TransactionData) → Packet profile t events → TellJson choice profile
         (packet_facts before place (times n) n events t)
     packet_is_json before tell n events t packet =
@@ -176,16 +176,16 @@ module _ (below : Below) (choice : ChoiceData) (profile : List DeviceParts) (bus
         (below.packet (seen_behind choice profile before) place (times n) n events t placed (timed n)
         (packet_fits choice profile bus formats before tell t events packet))
 
-    facts_are_json : (before : List TransactionData) → AllTellBytes before → (spans : List Span)
+    facts_are_json : (before : List PastData) → AllTellBytes before → (spans : List Span)
         → AllSayPackets profile spans → TellJson choice profile (span_facts choice.ignored place times before spans)
     facts_are_json before tell [] say = tt
     facts_are_json before tell (ReadSpan n events t ∷ spans) say =
         let own = packet_facts before place (times n) n events t in
         let addr = other_address choice.ignored events in
         each_of_both_facts choice profile IsJson (other_or place times n addr own)
-        (span_facts choice.ignored place times (before ++ t ∷ []) spans)
+        (span_facts choice.ignored place times (before ++ Said t ∷ []) spans)
         (either_is_json n addr own (packet_is_json before tell n events t say.0))
-        (facts_are_json (before ++ t ∷ []) (each_of_both TellsBytes before (t ∷ []) tell
+        (facts_are_json (before ++ Said t ∷ []) (each_of_both PastTellsBytes before (Said t ∷ []) tell
         (packets_tell_bytes profile t events say.0, tt)) spans say.1)
     facts_are_json before tell (RefusedSpan n front event refusal ∷ spans) say =
         let own = refused_span place times before n front (Some event) refusal ∷ [] in
@@ -203,7 +203,7 @@ module _ (below : Below) (choice : ChoiceData) (profile : List DeviceParts) (bus
         (facts_are_json before tell spans say.1)
 
   -- of a text that stands after what was read
-  pub spans_are_json : (b : Before) (text : List ℕ) (before : List TransactionData) → AllTellBytes before
+  pub spans_are_json : (b : Before) (text : List ℕ) (before : List PastData) → AllTellBytes before
       → (spans : List Span) → AllSayPackets profile spans
       → TellJson choice profile (text_facts choice.ignored b text before spans)
   spans_are_json b text before tell spans say =

@@ -1,6 +1,6 @@
 -- The objects of facts: of two lists, of a packet, and their lines. For the law `json_is_the_objects`,
 -- and for JsonSpans and Pieces, which go from objects of packets to those of facts. Facts of one packet
--- have the same transactions before them, so what is known where it begins is known to each.
+-- have the same before them, so what is known where it begins is known to each.
 use Rattle.std.proofs.Common.{◌≡◌, ℕ, ◌+◌, Bool, true, false, cond, Option, List, [], ◌∷◌, ◌++◌, filter, flat_map}
 use Rattle.std.proofs.Common.{length, map, take, drop, refl, sym, ap, ◌∙◌}
 use Rattle.std.specs.List.{AllByRecursion}
@@ -27,6 +27,7 @@ use Rattle.pmb_json_text.specs.Member.{object_line}
 use Rattle.pmb_places.specs.declared.places.Place.{Place}
 use Rattle.pmb_transaction.specs.Transaction.{PartData, RefusedData, TransactionData}
 use Rattle.pmb_transaction.specs.Transaction.{Write, Read, Call, Refused, Alert, NoAlert}
+use Rattle.pmb_unknown_start.specs.Past.{PastData}
 use Rattle.pmb_json.specs.Objects.{objects_of}
 
 -- ---- lists
@@ -50,7 +51,7 @@ PacketsHaveObjects = (seen : SeenData) (place : ℕ → Place) (time : Option (L
     (t : TransactionData) → map (object_in seen) (packet_facts seen.before place time n events t)
     ≡ packet_objects seen place time n events t
 
-module _ (choice : ChoiceData) (profile : List DeviceParts) (before : List TransactionData) (place : ℕ → Place)
+module _ (choice : ChoiceData) (profile : List DeviceParts) (before : List PastData) (place : ℕ → Place)
     (time : Option (List ℕ)) where
   abbrev here : FactData → Object
   here = object_in (seen_behind choice profile before)

@@ -4,7 +4,8 @@
 -- what is known of PAGE, PHASE and VOUT_MODE in both (`Agree`).
 use Rattle.std.proofs.Common.{◌≡◌, ℕ, suc, ◌+◌, ◌/◌, Bool, Option, Some, None}
 use Rattle.std.proofs.Common.{List, [], ◌∷◌, ◌++◌, codes, drop, take, length, map, refl, sym}
-use Rattle.std.proofs.Common.{ap, subst, append_assoc, append-nil, length-take, length-drop, arith}
+use Rattle.std.proofs.Common.{ap, subst, length-take, length-drop, arith, ◌⊎◌, inl, inr}
+use Rattle.std.specs.List.{AllByRecursion}
 use Rattle.pmb_bus.specs.declared.event.Event.{Event}
 use Rattle.pmb_bus.specs.declared.event.Event.TheVariants.{Start, Byte, Ack, Nack, Stop}
 use Rattle.pmb_bus.specs.declared.kinds.Kinds.{Kinds}
@@ -16,6 +17,7 @@ use Rattle.pmb_unknown_start.specs.Certain.{AgreesWith, known_as}
 use Rattle.pmb_unknown_start.specs.declared.mode.KnownMode.{KnownMode}
 use Rattle.pmb_unknown_start.specs.declared.start.Start.{Start as LateStart}
 use Rattle.pmb_unknown_start.specs.Known.{mode, page}
+use Rattle.pmb_unknown_start.specs.Past.{PastData, Said}
 use Rattle.pmb_unknown_start.specs.Phase.{phase}
 use Rattle.pmb_meaning.specs.Object.{says_members_of}
 use Rattle.pmb_voltage.specs.Voltage.{voltages_of}
@@ -48,16 +50,17 @@ use Rattle.pmb_fact_stream.specs.Others.{other_address}
 use Rattle.pmb_fact_stream.specs.Lines.{seen_behind}
 use Rattle.pmb_fact_stream.specs.Spans.{other_or, refused_span, span_facts}
 use Rattle.pmb_facts.specs.Fact.{FactData}
-use Rattle.pmb_facts.specs.Packets.{packet_facts}
+use Rattle.pmb_facts.specs.Packets.{packet_facts, refused_fact, refused_facts, write_facts}
 use Rattle.pmb_transaction.specs.Reading.{RefusalData}
+use Rattle.pmb_json.proofs.EachOf.{each_of_first, each_of_second}
 use Rattle.pmb_json.proofs.Objects.{PacketsHaveObjects, packet_is}
 use Rattle.pmb_json.proofs.PieceMembers.{TellEach, Tells, both, data_said, entry_said, head_said}
 use Rattle.pmb_json.proofs.PieceMembers.{of_device_command_said, same}
 
 -- ---- objects
 
--- what is known in a piece and in the whole agrees, after some transactions of each
-pub record Agree (profile : List DeviceParts) (a b : LateStart) (x y : List TransactionData) : Type 0 where
+-- what is known in a piece and in the whole agrees, after what went before in each
+pub record Agree (profile : List DeviceParts) (a b : LateStart) (x y : List PastData) : Type 0 where
   -- a PAGE that is known in the piece is that of the whole
   pub pages : (addr number : ℕ) → page a profile x addr ≡ Some number → page b profile y addr ≡ Some number
   -- a PHASE and a VOUT_MODE likewise
@@ -115,20 +118,7 @@ one_of_each k ats bts long = omega (
   length-drop k bts,
 )
 
-agree_here : {profile : List DeviceParts} {a b : LateStart} (x y : List TransactionData)
-    → Agree profile a b (x ++ []) (y ++ []) → Agree profile a b x y
-agree_here {profile} {a} {b} x y agree =
-    subst (λ (l : List TransactionData). Agree profile a b l y) (append-nil x)
-    (subst (λ (l : List TransactionData). Agree profile a b (x ++ []) l) (append-nil y) agree)
-
-agree_there : {profile : List DeviceParts} {a b : LateStart} (x y : List TransactionData) (t : TransactionData)
-    (ts : List TransactionData)
-    → Agree profile a b (x ++ t ∷ ts) (y ++ t ∷ ts) → Agree profile a b ((x ++ t ∷ []) ++ ts) ((y ++ t ∷ []) ++ ts)
-agree_there {profile} {a} {b} x y t ts agree =
-    subst (λ (l : List TransactionData). Agree profile a b l ((y ++ t ∷ []) ++ ts)) (sym (append_assoc x (t ∷ []) ts))
-    (subst (λ (l : List TransactionData). Agree profile a b (x ++ t ∷ ts) l) (sym (append_assoc y (t ∷ []) ts)) agree)
-
-module _ (timing : Timing) (places : ℕ) (profile : List DeviceParts) (a b : LateStart) (x y : List TransactionData)
+module _ (timing : Timing) (places : ℕ) (profile : List DeviceParts) (a b : LateStart) (x y : List PastData)
     (agree : Agree profile a b x y) where
   abbrev piece : SeenData
   piece = record { digits = places; start = a; profile = profile; before = x }
@@ -315,8 +305,18 @@ module _ (timing : Timing) (places : ℕ) (profile : List DeviceParts) (a b : La
 
 -- ---- spans
 
+-- What went before in a piece, beside what went before in the whole, which stay beside each other with a
+-- transaction more. What is known of both agrees where some condition holds of what went before in the piece,
+-- and it holds before each of its facts.
+pub record StandBeside (profile : List DeviceParts) (a b : LateStart) (Beside : List PastData → List PastData → Type 0)
+    (Ok : List PastData → Type 0) : Type 0 where
+  pub step : (x y : List PastData) (t : TransactionData) → Beside x y → Beside (x ++ Said t ∷ []) (y ++ Said t ∷ [])
+  pub agree : (x y : List PastData) → Beside x y → Ok x → Agree profile a b x y
+
 module _ (of_packets : PacketsHaveObjects) (timing : Timing) (choice : ChoiceData) (profile : List DeviceParts)
-    (a b : LateStart) (place there : ℕ → Place) (times theirs : ℕ → Option (List ℕ)) where
+    (a b : LateStart) (Pasts : List PastData → List PastData → Type 0) (Ok : List PastData → Type 0)
+    (stand : StandBeside profile a b Pasts Ok)
+    (place there : ℕ → Place) (times theirs : ℕ → Option (List ℕ)) where
   abbrev in_piece : ChoiceData
   in_piece = record choice { start = a }
 
@@ -325,6 +325,9 @@ module _ (of_packets : PacketsHaveObjects) (timing : Timing) (choice : ChoiceDat
 
   abbrev Beside : List FactData → List FactData → Type 0
   Beside piece whole = FactsSayNoMore timing profile in_piece in_whole piece whole
+
+  abbrev AllOk : List FactData → Type 0
+  AllOk facts = AllByRecursion (λ fact. Ok fact.before) facts
 
   other_said : (head beside : Head) → Tells timing head.time beside.time → (addr : ℕ)
       → SaysNoMore timing (other_object head addr) (other_object beside addr)
@@ -335,27 +338,96 @@ module _ (of_packets : PacketsHaveObjects) (timing : Timing) (choice : ChoiceDat
 
   -- an other, or these facts
   either_said : (m n : ℕ) (addr : Option ℕ) (own beside : List FactData) → Tells timing (times m) (theirs n)
-      → Beside own beside → Beside (other_or place times m addr own) (other_or there theirs n addr beside)
-  either_said m n None own beside told said = said
-  either_said m n (Some addr) own beside told said =
+      → (AllOk own → Beside own beside) → AllOk (other_or place times m addr own)
+      → Beside (other_or place times m addr own) (other_or there theirs n addr beside)
+  either_said m n None own beside told said ok = said ok
+  either_said m n (Some addr) own beside told said ok =
       (other_said (head_at place (times m) (m + 1)) (head_at there (theirs n) (n + 1)) told addr, tt)
 
-  -- those of a packet
-  packet_beside : (m n : ℕ) (events : List Event) (t : TransactionData) (x y : List TransactionData)
+  -- ---- a packet
+
+  -- What went before a packet went before each of its facts. So the condition holds of it, or there is no fact.
+  module _ (x y : List PastData) (time their : Option (List ℕ)) where
+    writes_ok : (part parts : ℕ) (ats bts : List ℕ) (ps : List PartData) → length ats ≡ length bts
+        → AllOk (write_facts x place time part parts ats ps)
+        → Ok x ⊎ Beside (write_facts x place time part parts ats ps)
+        (write_facts y there their part parts bts ps)
+    writes_ok part parts ats bts [] long ok = inr tt
+    writes_ok part parts [] [] (p ∷ ps) long ok = inr tt
+    writes_ok part parts [] (v ∷ bts) (p ∷ ps) long ok = absurd (omega (arith, long))
+    writes_ok part parts (u ∷ ats) [] (p ∷ ps) long ok = absurd (omega (arith, long))
+    writes_ok part parts (u ∷ ats) (v ∷ bts) (p ∷ ps) long ok = inl ok.0
+
+    legs_ok : (t : RefusedData) (ats bts : List ℕ) → length ats ≡ length bts
+        → AllOk (map (refused_fact x place time t) ats)
+        → Ok x ⊎ Beside (map (refused_fact x place time t) ats) (map (refused_fact y there their t) bts)
+    legs_ok t [] [] long ok = inr tt
+    legs_ok t [] (v ∷ bts) long ok = absurd (omega (arith, long))
+    legs_ok t (u ∷ ats) [] long ok = absurd (omega (arith, long))
+    legs_ok t (u ∷ ats) (v ∷ bts) long ok = inl ok.0
+
+    refused_ok : (t : RefusedData) (ats bts : List ℕ) → length ats ≡ length bts
+        → AllOk (refused_facts x place time ats t)
+        → Ok x ⊎ Beside (refused_facts x place time ats t) (refused_facts y there their bts t)
+    refused_ok t ats bts long ok =
+        let count = length t.parts in
+        let own = write_facts x place time 1 (count + 1) ats t.parts in
+        let own_leg = map (refused_fact x place time t) (take 1 (drop count ats)) in
+        let beside = write_facts y there their 1 (count + 1) bts t.parts in
+        let beside_leg = map (refused_fact y there their t) (take 1 (drop count bts)) in
+        elim (writes_ok 1 (count + 1) ats bts t.parts long
+        (each_of_first (λ (fact : FactData). Ok fact.before) own own_leg ok)) [
+          | inl here ↦ inl here
+          | inr first ↦
+              elim (legs_ok t (take 1 (drop count ats)) (take 1 (drop count bts)) (one_of_each count ats bts long)
+              (each_of_second (λ (fact : FactData). Ok fact.before) own own_leg ok)) [
+                | inl here ↦ inl here
+                | inr second ↦
+                    inr (both_say_no_more timing profile in_piece in_whole own beside own_leg beside_leg first second)
+              ]
+        ]
+
+    packet_ok : (m n : ℕ) (events : List Event) (t : TransactionData)
+        → AllOk (packet_facts x place time m events t)
+        → Ok x ⊎ Beside (packet_facts x place time m events t) (packet_facts y there their n events t)
+    packet_ok m n events (Write ps) ok =
+        writes_ok 1 (length ps) (starts m events) (starts n events) ps (as_many_starts m n events) ok
+    packet_ok m n events (Read t) ok = inl ok.0
+    packet_ok m n events (Call t) ok = inl ok.0
+    packet_ok m n events (Refused t) ok =
+        refused_ok t (starts m events) (starts n events) (as_many_starts m n events) ok
+    packet_ok m n events (Alert t) ok = inl ok.0
+    packet_ok m n events NoAlert ok = inl ok.0
+
+  packet_agrees : (m n : ℕ) (events : List Event) (t : TransactionData) (x y : List PastData)
       → Tells timing (times m) (theirs n) → Agree profile a b x y
       → Beside (packet_facts x place (times m) m events t) (packet_facts y there (theirs n) n events t)
-  packet_beside m n events t x y told agree =
+  packet_agrees m n events t x y told agrees =
       let own = packet_objects (seen_behind in_piece profile x) place (times m) m events t in
       subst (λ (objects : List Object). EachSaysNoMore timing objects
       (objects_of in_whole profile (packet_facts y there (theirs n) n events t)))
       (sym (packet_is in_piece profile x place (times m) of_packets m events t))
       (subst (λ (objects : List Object). EachSaysNoMore timing own objects)
       (sym (packet_is in_whole profile y there (theirs n) of_packets n events t))
-      (packet_said timing choice.digits profile a b x y agree place there (times m) (theirs n) told m n events t))
+      (packet_said timing choice.digits profile a b x y agrees place there (times m) (theirs n) told m n events t))
+
+  -- the facts of a packet
+  packet_beside : (m n : ℕ) (events : List Event) (t : TransactionData) (x y : List PastData)
+      → Tells timing (times m) (theirs n) → Pasts x y → AllOk (packet_facts x place (times m) m events t)
+      → Beside (packet_facts x place (times m) m events t) (packet_facts y there (theirs n) n events t)
+  packet_beside m n events t x y told pasts ok =
+      elim (packet_ok x y (times m) (theirs n) m n events t ok) [
+        | inl here ↦ packet_agrees m n events t x y told (stand.agree x y pasts here)
+        | inr none ↦ none
+      ]
+
+  -- ---- spans
 
   -- a refusal, or an other, and the spans after it
   refused_said_in : (n m : ℕ) (front : List Event) (event : Option Event) (refusal : RefusalData) (events : List Event)
-      (spans : List Span) (x y : List TransactionData) → TellEach timing n times theirs → Agree profile a b x y
+      (spans : List Span) (x y : List PastData) → TellEach timing n times theirs → Pasts x y
+      → AllOk (other_or place times m (other_address choice.ignored events)
+      (refused_span place times x m front event refusal ∷ []) ++ span_facts choice.ignored place times x spans)
       → Beside (span_facts choice.ignored place times x spans)
       (span_facts choice.ignored there theirs y (moved_spans n spans))
       → Beside (other_or place times m (other_address choice.ignored events)
@@ -363,39 +435,52 @@ module _ (of_packets : PacketsHaveObjects) (timing : Timing) (choice : ChoiceDat
       (other_or there theirs (n + m) (other_address choice.ignored events)
       (refused_span there theirs y (n + m) front event refusal ∷ [])
       ++ span_facts choice.ignored there theirs y (moved_spans n spans))
-  refused_said_in n m front event refusal events spans x y told agree others =
+  refused_said_in n m front event refusal events spans x y told pasts ok others =
       let addr = other_address choice.ignored events in
       let own = refused_span place times x m front event refusal ∷ [] in
       let beside = refused_span there theirs y (n + m) front event refusal ∷ [] in
       both_say_no_more timing profile in_piece in_whole (other_or place times m addr own)
       (other_or there theirs (n + m) addr beside) (span_facts choice.ignored place times x spans)
       (span_facts choice.ignored there theirs y (moved_spans n spans))
-      (either_said m (n + m) addr own beside (told m) (
-        refusal_said timing choice.digits profile a b x y agree (head_at place (times m) (m + length front))
-            (head_at there (theirs (n + m)) (n + m + length front)) (told m) front event refusal.reason
-            refusal.expected,
+      (either_said m (n + m) addr own beside (told m)
+      (λ here. (
+        refusal_said timing choice.digits profile a b x y (stand.agree x y pasts here.0)
+            (head_at place (times m) (m + length front)) (head_at there (theirs (n + m)) (n + m + length front))
+            (told m) front event refusal.reason refusal.expected,
         tt,
       ))
+      (each_of_first (λ (fact : FactData). Ok fact.before) (other_or place times m addr own)
+      (span_facts choice.ignored place times x spans) ok))
       others
 
-  pub spans_said : (n : ℕ) (spans : List Span) (x y : List TransactionData) → TellEach timing n times theirs
-      → ((ts : List TransactionData) → Agree profile a b (x ++ ts) (y ++ ts))
+  -- what is known of the facts after those of a span
+  after_own : (own others : List FactData) → AllOk (own ++ others) → AllOk others
+  after_own own others ok = each_of_second (λ (fact : FactData). Ok fact.before) own others ok
+
+  pub spans_said : (n : ℕ) (spans : List Span) (x y : List PastData) → TellEach timing n times theirs → Pasts x y
+      → AllOk (span_facts choice.ignored place times x spans)
       → Beside (span_facts choice.ignored place times x spans)
       (span_facts choice.ignored there theirs y (moved_spans n spans))
-  spans_said n [] x y told agree = tt
-  spans_said n (ReadSpan m events t ∷ spans) x y told agree =
+  spans_said n [] x y told pasts ok = tt
+  spans_said n (ReadSpan m events t ∷ spans) x y told pasts ok =
       let addr = other_address choice.ignored events in
       let own = packet_facts x place (times m) m events t in
       let beside = packet_facts y there (theirs (n + m)) (n + m) events t in
+      let others = span_facts choice.ignored place times (x ++ Said t ∷ []) spans in
       both_say_no_more timing profile in_piece in_whole (other_or place times m addr own)
-      (other_or there theirs (n + m) addr beside) (span_facts choice.ignored place times (x ++ t ∷ []) spans)
-      (span_facts choice.ignored there theirs (y ++ t ∷ []) (moved_spans n spans))
-      (either_said m (n + m) addr own beside (told m)
-      (packet_beside m (n + m) events t x y (told m) (agree_here x y (agree []))))
-      (spans_said n spans (x ++ t ∷ []) (y ++ t ∷ []) told (λ ts. agree_there x y t ts (agree (t ∷ ts))))
-  spans_said n (RefusedSpan m front event refusal ∷ spans) x y told agree =
-      refused_said_in n m front (Some event) refusal (front ++ event ∷ []) spans x y told (agree_here x y (agree []))
-      (spans_said n spans x y told agree)
-  spans_said n (TruncatedSpan m front refusal ∷ spans) x y told agree =
-      refused_said_in n m front None refusal front spans x y told (agree_here x y (agree []))
-      (spans_said n spans x y told agree)
+      (other_or there theirs (n + m) addr beside) others
+      (span_facts choice.ignored there theirs (y ++ Said t ∷ []) (moved_spans n spans))
+      (either_said m (n + m) addr own beside (told m) (packet_beside m (n + m) events t x y (told m) pasts)
+      (each_of_first (λ (fact : FactData). Ok fact.before) (other_or place times m addr own) others ok))
+      (spans_said n spans (x ++ Said t ∷ []) (y ++ Said t ∷ []) told (stand.step x y t pasts)
+      (after_own (other_or place times m addr own) others ok))
+  spans_said n (RefusedSpan m front event refusal ∷ spans) x y told pasts ok =
+      let own = other_or place times m (other_address choice.ignored (front ++ event ∷ []))
+      (refused_span place times x m front (Some event) refusal ∷ []) in
+      refused_said_in n m front (Some event) refusal (front ++ event ∷ []) spans x y told pasts ok
+      (spans_said n spans x y told pasts (after_own own (span_facts choice.ignored place times x spans) ok))
+  spans_said n (TruncatedSpan m front refusal ∷ spans) x y told pasts ok =
+      let own = other_or place times m (other_address choice.ignored front)
+      (refused_span place times x m front None refusal ∷ []) in
+      refused_said_in n m front None refusal front spans x y told pasts ok
+      (spans_said n spans x y told pasts (after_own own (span_facts choice.ignored place times x spans) ok))

@@ -1,5 +1,5 @@
--- What the facts of spans say, wherever these stand: places, times, numbers of events and the transactions
--- before them are nothing to it. For the law `pieces_say_the_same`.
+-- What the facts of spans say, wherever these stand: places, times, numbers of events and what came before
+-- them are nothing to it. For the law `pieces_say_the_same`.
 use Rattle.std.proofs.Common.{◌≡◌, ℕ, ◌+◌, Option, Some, None, List, [], ◌∷◌, ◌++◌, drop, take, length, map}
 use Rattle.std.proofs.Common.{refl, sym, ap, ◌∙◌, arith}
 use Rattle.std.proofs.lemmas.List.{map-append}
@@ -14,6 +14,7 @@ use Rattle.pmb_transaction.specs.Transaction.{PartData, RefusedData, Transaction
 use Rattle.pmb_transaction.specs.Transaction.{Write, Read, Call, Refused, Alert, NoAlert}
 use Rattle.pmb_fact_stream.specs.Others.{other_address}
 use Rattle.pmb_fact_stream.specs.Spans.{other_or, refused_span, span_facts}
+use Rattle.pmb_unknown_start.specs.Past.{PastData, Said}
 use Rattle.pmb_json.specs.Cut.{said_in}
 use Rattle.pmb_json.specs.Pieces.{Timing}
 use Rattle.pmb_json.proofs.Cut.{HoldsAcross}
@@ -34,7 +35,7 @@ both_say_the_same a b c d first second =
 
 -- ---- packets
 
-module _ (x y : List TransactionData) (place there : ℕ → Place) (time theirs : Option (List ℕ)) where
+module _ (x y : List PastData) (place there : ℕ → Place) (time theirs : Option (List ℕ)) where
   parts_say : (part parts : ℕ) (ats bts : List ℕ) (ps : List PartData) → length ats ≡ length bts
       → said_in (write_facts x place time part parts ats ps) ≡ said_in (write_facts y there theirs part parts bts ps)
   parts_say part parts ats bts [] long = refl
@@ -84,7 +85,7 @@ module _ (ignored : Option (List ℕ)) (place there : ℕ → Place) (times thei
   either_says m n (Some addr) own beside same = refl
 
   -- those of spans that are moved
-  pub spans_say : (n : ℕ) (spans : List Span) (x y : List TransactionData)
+  pub spans_say : (n : ℕ) (spans : List Span) (x y : List PastData)
       → said_in (span_facts ignored place times x spans)
       ≡ said_in (span_facts ignored there theirs y (moved_spans n spans))
   spans_say n [] x y = refl
@@ -93,11 +94,11 @@ module _ (ignored : Option (List ℕ)) (place there : ℕ → Place) (times thei
       let own = packet_facts x place (times m) m events t in
       let beside = packet_facts y there (theirs (n + m)) (n + m) events t in
       both_say_the_same (other_or place times m addr own) (other_or there theirs (n + m) addr beside)
-      (span_facts ignored place times (x ++ t ∷ []) spans)
-      (span_facts ignored there theirs (y ++ t ∷ []) (moved_spans n spans))
+      (span_facts ignored place times (x ++ Said t ∷ []) spans)
+      (span_facts ignored there theirs (y ++ Said t ∷ []) (moved_spans n spans))
       (either_says m (n + m) addr own beside
       (packet_says x y place there (times m) (theirs (n + m)) m (n + m) events t))
-      (spans_say n spans (x ++ t ∷ []) (y ++ t ∷ []))
+      (spans_say n spans (x ++ Said t ∷ []) (y ++ Said t ∷ []))
   spans_say n (RefusedSpan m front event refusal ∷ spans) x y =
       let addr = other_address ignored (front ++ event ∷ []) in
       let own = refused_span place times x m front (Some event) refusal ∷ [] in
@@ -115,7 +116,7 @@ module _ (ignored : Option (List ℕ)) (place there : ℕ → Place) (times thei
 
 -- those of the same spans, elsewhere
 pub spans_say_anywhere : (ignored : Option (List ℕ)) (place there : ℕ → Place) (times theirs : ℕ → Option (List ℕ))
-    (spans : List Span) (x y : List TransactionData)
+    (spans : List Span) (x y : List PastData)
     → said_in (span_facts ignored place times x spans) ≡ said_in (span_facts ignored there theirs y spans)
 spans_say_anywhere ignored place there times theirs spans x y =
     spans_say ignored place place times times 0 spans x x ∙ sym (spans_say ignored there place theirs times 0 spans y x)
@@ -125,7 +126,7 @@ spans_say_anywhere ignored place there times theirs spans x y =
 abbrev pub SayTheSame : List FactData → List FactData → Type 0
 SayTheSame facts others = said_in facts ≡ said_in others
 
-pub same_across : (ignored : Option (List ℕ)) (timing : Timing) (m : ℕ) (before : List TransactionData)
+pub same_across : (ignored : Option (List ℕ)) (timing : Timing) (m : ℕ) (before : List PastData)
     → HoldsAcross ignored timing m before SayTheSame
 same_across ignored timing m before = record {
   none = refl;

@@ -1,18 +1,21 @@
 -- Packets tell bytes, so PAGE and PHASE stay bytes after any of them. For the law `each_line_is_json`:
 -- they are numbers of one object's members. What a part writes has bytes below 256 by its form, and
--- learning keeps such a PAGE and such a PHASE.
-use Rattle.std.proofs.Common.{ℕ, ◌<◌, if◌then◌else◌, ◌&&◌, nat_eq, Option, Some, None, List, [], ◌∷◌, fold, map, arith}
+-- learning keeps such a PAGE and such a PHASE. A line that was dropped tells nothing.
+use Rattle.std.proofs.Common.{ℕ, ◌<◌, if◌then◌else◌, ◌&&◌, nat_eq, Option, Some, None, List, [], ◌∷◌, ◌++◌}
+use Rattle.std.proofs.Common.{fold, map, arith}
 use Rattle.std.specs.Prelude.{IfSome, option_and_then}
-use Rattle.std.specs.List.{AllByRecursion, flat_map}
+use Rattle.std.specs.List.{AllByRecursion}
 use Rattle.std.specs.Option.{is_some, option_or}
 use Rattle.pmb_bus.specs.declared.event.Event.{Event}
 use Rattle.pmb_command.specs.Parts.{DeviceParts, device_with}
 use Rattle.pmb_unknown_start.specs.declared.start.Start.{Start}
 use Rattle.pmb_unknown_start.specs.declared.start.Start.TheVariants.{AllKnown, Late, LateFixedMode}
-use Rattle.pmb_unknown_start.specs.Known.{KnownPaging, first_known, first_page, forget_modes, known, learn_bytes}
-use Rattle.pmb_unknown_start.specs.Known.{learn_mode, learn_told, learn_transaction, learn_value, learn_written, page}
-use Rattle.pmb_unknown_start.specs.Known.{told_by_read}
-use Rattle.pmb_unknown_start.specs.Phase.{last_phase, only_byte, phase, phase_code, phase_of, told_phase}
+use Rattle.pmb_unknown_start.specs.Known.{KnownPaging, first_known, first_page, forget_modes, forget_paging, known}
+use Rattle.pmb_unknown_start.specs.Known.{learn_bytes, learn_mode, learn_past, learn_told, learn_transaction}
+use Rattle.pmb_unknown_start.specs.Known.{learn_value, learn_written, page, told_by_read}
+use Rattle.pmb_unknown_start.specs.Past.{PastData, Said, Dropped}
+use Rattle.pmb_unknown_start.specs.Phase.{last_phase, only_byte, phase, phase_code, phase_of, told_phase, told_since}
+use Rattle.pmb_unknown_start.specs.Phase.{told_then}
 use Rattle.pmb_unknown_start.specs.Restores.{untells}
 use Rattle.pmb_note.specs.Paging.{RegisterTold, page_code, told, told_by_part, vout_mode_code}
 use Rattle.pmb_json_text.specs.Spelling.{AreBytes}
@@ -29,8 +32,13 @@ AreTold all = AllByRecursion (λ t. AreBytes t.bytes) all
 abbrev pub TellsBytes : TransactionData → Type 0
 TellsBytes t = AreTold (told t)
 
-abbrev pub AllTellBytes : List TransactionData → Type 0
-AllTellBytes ts = AllByRecursion TellsBytes ts
+-- so does what was said, and a line that was dropped tells nothing
+abbrev pub PastTellsBytes : PastData → Type 0
+PastTellsBytes (Said t) = TellsBytes t
+PastTellsBytes Dropped = Unit {0}
+
+abbrev pub AllTellBytes : List PastData → Type 0
+AllTellBytes past = AllByRecursion PastTellsBytes past
 
 abbrev pub HaveBytes : List PartData → Type 0
 HaveBytes parts = AllByRecursion (λ part. AreBytes part.bytes) parts
@@ -86,6 +94,12 @@ module _ (device : DeviceParts) where
   behind_forgetting Late k is = is
   behind_forgetting LateFixedMode k is = is
 
+  -- after a line that was dropped PAGE stays, or is not known
+  behind_drop : (start : Start) (k : KnownPaging) → HasBytePage k → HasBytePage (forget_paging start k)
+  behind_drop AllKnown k is = is
+  behind_drop Late k is = tt
+  behind_drop LateFixedMode k is = tt
+
   module _ (start : Start) where
     behind_write : (t : RegisterTold) (k : KnownPaging) → AreBytes t.bytes → HasBytePage k
         → HasBytePage (learn_written start device k t)
@@ -110,27 +124,32 @@ module _ (device : DeviceParts) where
     behind_transaction (Alert t) k tell is = is
     behind_transaction NoAlert k tell is = is
 
-    behind_transactions : (ts : List TransactionData) (k : KnownPaging) → AllTellBytes ts → HasBytePage k
-        → HasBytePage (fold (learn_transaction start device) k ts)
-    behind_transactions [] k tell is = is
-    behind_transactions (t ∷ ts) k tell is = behind_transactions ts (learn_transaction start device k t) tell.1
-        (behind_transaction t k tell.0 is)
+    behind_one_past : (x : PastData) (k : KnownPaging) → PastTellsBytes x → HasBytePage k
+        → HasBytePage (learn_past start device k x)
+    behind_one_past (Said t) k tell is = behind_transaction t k tell is
+    behind_one_past Dropped k tell is = behind_drop start k is
+
+    behind_past : (past : List PastData) (k : KnownPaging) → AllTellBytes past → HasBytePage k
+        → HasBytePage (fold (learn_past start device) k past)
+    behind_past [] k tell is = is
+    behind_past (x ∷ past) k tell is =
+        behind_past past (learn_past start device k x) tell.1 (behind_one_past x k tell.0 is)
 
 at_first_known : (start : Start) → IsByteIfKnown (first_page start)
 at_first_known AllKnown = omega arith
 at_first_known Late = tt
 at_first_known LateFixedMode = tt
 
-page_of : (start : Start) (ts : List TransactionData) (found : Option DeviceParts) → AllTellBytes ts
-    → IsByteIfKnown (option_and_then (λ device. (known start device ts).page) found)
-page_of start ts None tell = tt
-page_of start ts (Some device) tell = behind_transactions device start ts (first_known start device) tell
-    (at_first_known start)
+page_of : (start : Start) (past : List PastData) (found : Option DeviceParts) → AllTellBytes past
+    → IsByteIfKnown (option_and_then (λ device. (known start device past).page) found)
+page_of start past None tell = tt
+page_of start past (Some device) tell =
+    behind_past device start past (first_known start device) tell (at_first_known start)
 
--- PAGE is a byte after transactions that tell bytes
-pub page_is_byte : (start : Start) (profile : List DeviceParts) (ts : List TransactionData) (addr : ℕ) → AllTellBytes ts
-    → IfSome (page start profile ts addr) (λ page. page < 256)
-page_is_byte start profile ts addr tell = page_of start ts (device_with addr profile) tell
+-- PAGE is a byte after what tells bytes
+pub page_is_byte : (start : Start) (profile : List DeviceParts) (past : List PastData) (addr : ℕ) → AllTellBytes past
+    → IfSome (page start profile past addr) (λ page. page < 256)
+page_is_byte start profile past addr tell = page_of start past (device_with addr profile) tell
 
 -- ---- PHASE
 
@@ -151,19 +170,21 @@ last_is_byte addr (t ∷ all) small =
     (of_either IsByteIfKnown (nat_eq t.addr addr && nat_eq t.code phase_code) (only_byte t.bytes) None
     (of_bytes t.bytes small.0) tt)
 
-all_told : (ts : List TransactionData) → AllTellBytes ts → AreTold (flat_map told ts)
-all_told [] tell = tt
-all_told (t ∷ ts) tell =
-    each_of_both (λ t. AreBytes t.bytes) (told t) (flat_map told ts) tell.0 (all_told ts tell.1)
+since_told : (all : List RegisterTold) (past : List PastData) → AreTold all → AllTellBytes past
+    → AreTold (fold told_then all past)
+since_told all [] are tell = are
+since_told all (Said t ∷ past) are tell =
+    since_told (all ++ told t) past (each_of_both (λ t. AreBytes t.bytes) all (told t) are tell.0) tell.1
+since_told all (Dropped ∷ past) are tell = since_told [] past tt tell.1
 
-of_found : (ts : List TransactionData) (addr : ℕ) (found : Option DeviceParts) → AllTellBytes ts
-    → IsByteIfKnown (option_and_then (phase_of addr ts) found)
-of_found ts addr None tell = tt
-of_found ts addr (Some device) tell =
-    of_either IsByteIfKnown (is_some device.phases) (last_phase addr (flat_map told ts)) None
-    (last_is_byte addr (flat_map told ts) (all_told ts tell)) tt
+of_found : (past : List PastData) (addr : ℕ) (found : Option DeviceParts) → AllTellBytes past
+    → IsByteIfKnown (option_and_then (phase_of addr past) found)
+of_found past addr None tell = tt
+of_found past addr (Some device) tell =
+    of_either IsByteIfKnown (is_some device.phases) (last_phase addr (told_since past)) None
+    (last_is_byte addr (told_since past) (since_told [] past tt tell)) tt
 
 -- so is PHASE
-pub phase_is_byte : (profile : List DeviceParts) (ts : List TransactionData) (addr : ℕ) → AllTellBytes ts
-    → IfSome (phase profile ts addr) (λ phase. phase < 256)
-phase_is_byte profile ts addr tell = of_found ts addr (device_with addr profile) tell
+pub phase_is_byte : (profile : List DeviceParts) (past : List PastData) (addr : ℕ) → AllTellBytes past
+    → IfSome (phase profile past addr) (λ phase. phase < 256)
+phase_is_byte profile past addr tell = of_found past addr (device_with addr profile) tell

@@ -1,4 +1,5 @@
 pub mod Objects
 pub mod Pieces
+pub mod Mended
 pub mod Cut
 pub mod Lines

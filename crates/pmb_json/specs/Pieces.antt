@@ -1,10 +1,13 @@
 -- What is said of a piece of a capture, beside what is said of the whole.
 use Rattle.std.specs.Prelude.{◌≡◌, ◌⊎◌, ℕ, ◌+◌, IfSome, Option, Some, List, [], ◌∷◌, ◌++◌, codes}
-use Rattle.std.specs.List.{Contains}
+use Rattle.std.specs.List.{AllByRecursion, Contains}
 use Rattle.pmb_bus.specs.declared.event.Event.{Event}
 use Rattle.pmb_bus.specs.Text.{EndsBetween, Spells}
 use Rattle.pmb_command.specs.Parts.{DeviceParts, device_with}
-use Rattle.pmb_unknown_start.specs.Certain.{CanBeCutAfter}
+use Rattle.pmb_facts.specs.Fact.{FactData}
+use Rattle.pmb_note.specs.Paging.{paging}
+use Rattle.pmb_unknown_start.specs.Certain.{CanBeCutAfter, DropsOnOwnPage}
+use Rattle.pmb_unknown_start.specs.Past.{PastData, transactions_of}
 use Rattle.pmb_unknown_start.specs.declared.start.Start.{Start}
 use Rattle.pmb_unknown_start.specs.declared.start.Start.TheVariants.{AllKnown}
 use Rattle.pmb_json_text.specs.Json.{null, string}
@@ -13,7 +16,7 @@ use Rattle.pmb_spans.specs.Spans.{Span, Spans}
 use Rattle.pmb_transaction.specs.Cut.{EndsWithStop}
 use Rattle.pmb_json_objects.specs.Object.{Object}
 use Rattle.pmb_fact_stream.specs.Choice.{ChoiceData}
-use Rattle.pmb_fact_stream.specs.Spans.{transactions_in}
+use Rattle.pmb_fact_stream.specs.Spans.{past_in}
 
 -- the same choice, where all is known at first
 abbrev pub all_known : ChoiceData → ChoiceData
@@ -73,13 +76,15 @@ EachSaysNoMore timing (piece ∷ pieces) [] = ⊥
 EachSaysNoMore timing (piece ∷ pieces) (whole ∷ others) =
     SaysNoMore timing piece whole × EachSaysNoMore timing pieces others
 
+-- ---- where a piece is cut
+
 -- the last byte is an LF
 abbrev pub EndsWithLine : List ℕ → Type 0
 EndsWithLine front = (lines : List ℕ) × (front ≡ lines ++ codes "\n")
 
 -- After such bytes a capture can be cut, so that the rest is read late: they spell events of which
--- the last is STOP, they end in no word and no comment, and what they tell of PAGE and VOUT_MODE is
--- what each device can have where the rest begins.
+-- the last is STOP, they end in no word and no comment, and what was written to PAGE and VOUT_MODE, or read
+-- as them, is what each device can have where the rest begins.
 pub record CanBeCutBehind (profile : List DeviceParts) (start : Start) (front : List ℕ) : Type 0 where
   pub events : List Event
   pub spans : List Span
@@ -88,4 +93,16 @@ pub record CanBeCutBehind (profile : List DeviceParts) (start : Start) (front : 
   pub between : EndsBetween front
   pub reads : Spans profile events spans
   pub told : (addr : ℕ) (device : DeviceParts) → device_with addr profile ≡ Some device
-      → CanBeCutAfter start device (transactions_in spans)
+      → CanBeCutAfter start device (past_in spans)
+
+-- ---- lines of a piece that were dropped
+
+-- What went before in a piece, with these before it in the whole: PAGE of each device is a page that it has,
+-- or ffh, at each line of the piece that was dropped.
+abbrev pub DropsOnOwnPages : List DeviceParts → List PastData → List PastData → Type 0
+DropsOnOwnPages profile before past = (addr : ℕ) (device : DeviceParts) → device_with addr profile ≡ Some device
+    → DropsOnOwnPage device (paging device (transactions_of before)) past
+
+-- .. before each fact of the piece
+abbrev pub AllDropsOnOwnPages : List DeviceParts → List PastData → List FactData → Type 0
+AllDropsOnOwnPages profile before facts = AllByRecursion (λ fact. DropsOnOwnPages profile before fact.before) facts

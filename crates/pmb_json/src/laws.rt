@@ -1,7 +1,7 @@
 //! Laws over the definitions alone.
 
 ghost use Rattle.std.specs.List.{Contains};
-ghost use Rattle.std.specs.Prelude.{◌≡◌, ◌≢◌, ℕ, Option, Some, List, [], ◌++◌};
+ghost use Rattle.std.specs.Prelude.{◌≡◌, ◌≢◌, ℕ, Option, Some, List, [], ◌++◌, map};
 ghost use Rattle.pmb_capture.specs.Cut.{EndsAtCut};
 ghost use Rattle.pmb_command.specs.Bus.{IsBus};
 ghost use Rattle.pmb_command.specs.Parts.{DeviceParts, device_with};
@@ -9,24 +9,27 @@ ghost use Rattle.pmb_facts.specs.Fact.{FactData};
 ghost use Rattle.pmb_fact_stream.specs.Before.{at_first};
 ghost use Rattle.pmb_fact_stream.specs.Choice.{ChoiceData, gives_others};
 ghost use Rattle.pmb_fact_stream.specs.Lines.{fact_lines};
-ghost use Rattle.pmb_fact_stream.specs.Spans.{span_facts};
+ghost use Rattle.pmb_fact_stream.specs.Spans.{past_in, span_facts};
 ghost use Rattle.pmb_fact_stream.specs.declared.telling.Telling.TheVariants.{Objects};
 ghost use Rattle.pmb_io.specs.declared.tally.Tally.{Tally};
 ghost use Rattle.pmb_json.specs.Cut.{AreOfPieces, said_in};
 ghost use Rattle.pmb_json.specs.Lines.{AllMakeFormats, AreJsonLines};
+ghost use Rattle.pmb_json.specs.Mended.{CanBeMended};
 ghost use Rattle.pmb_json.specs.Objects.{objects_of};
-ghost use Rattle.pmb_json.specs.Pieces.{CanBeCutBehind, EachSaysNoMore, EndsWithLine, IsMeaning, OtherTimes, SameTimes, SaysNoMore, TellNoMore, Timing, all_known};
+ghost use Rattle.pmb_json.specs.Pieces.{AllDropsOnOwnPages, CanBeCutBehind, DropsOnOwnPages, EachSaysNoMore, EndsWithLine, IsMeaning, OtherTimes, SameTimes, SaysNoMore, TellNoMore, Timing, all_known};
 ghost use Rattle.pmb_json_objects.specs.Counts.{CountsData, end_objects};
 ghost use Rattle.pmb_json_objects.specs.Object.{Object, object_lines};
 ghost use Rattle.pmb_json_text.specs.Member.{Member};
 ghost use Rattle.pmb_json_text.specs.Spelling.{AreBytes};
 ghost use Rattle.pmb_places.specs.declared.places.Place.{Place};
 ghost use Rattle.pmb_scan.specs.declared.after_bad_token.AfterBadToken.{AfterBadToken};
+ghost use Rattle.pmb_scan.specs.declared.after_bad_token.AfterBadToken.TheVariants.{Continue};
 ghost use Rattle.pmb_spans.specs.Spans.{Span, moved_spans};
 ghost use Rattle.pmb_telling.specs.SoFar.{HasTold};
 ghost use Rattle.pmb_telling.specs.Text.{BadLine, FactsFrom, WritesTold};
-ghost use Rattle.pmb_transaction.specs.Transaction.{TransactionData};
 ghost use Rattle.pmb_unknown_start.specs.Certain.{CanBeCutAfter};
+ghost use Rattle.pmb_transaction.specs.Transaction.{TransactionData};
+ghost use Rattle.pmb_unknown_start.specs.Past.{PastData, Said};
 ghost use Rattle.pmb_unknown_start.specs.declared.start.Start.TheVariants.{AllKnown};
 
 use pmb_bus::laws::texts_may_be_cut_between_words;
@@ -37,7 +40,9 @@ use pmb_places::laws::places_are_in_range;
 use pmb_spans::laws::{each_list_has_spans, spans_may_be_cut, spans_move};
 use pmb_telling::laws::{one_list_of_facts, some_text_is_told};
 use pmb_times::laws::{times_are_short, times_of_a_piece};
-use pmb_unknown_start::laws::{all_that_is_known_is_the_context, pieces_say_what_the_whole_says};
+use pmb_unknown_start::laws::{
+    all_that_is_known_is_the_context, pieces_say_what_the_whole_says, what_is_known_is_certain,
+};
 
 /// Where facts are told as objects, their lines are the lines of their objects. What is written for a
 /// whole capture is the lines of the objects of its facts and then of the counts, and what is written so
@@ -83,18 +88,38 @@ pub fn meanings_of_pieces_are_of_the_whole()
 
 /// A piece of a capture says nothing that the whole denies: where the piece is read late, each of its
 /// objects says what that of the whole says, but for where it stands, and for what isn't known, or is
-/// only assumed. So it is under a profile that is accepted, if the transactions before the piece set PAGE
-/// only to pages that the device has, or to ffh, and with `--fixed-vout-mode` if VOUT_MODE is that of the
-/// profile on each page where the piece begins. A time that the piece tells is that of the whole.
+/// only assumed. So it is under a profile that is accepted, if before the piece PAGE was only written to, or
+/// read as, pages that the device has, or ffh, and with `--fixed-vout-mode` if on each page VOUT_MODE is that
+/// of the profile where the piece begins, by what was written to it or read as it. Lines of the piece may have
+/// been dropped, in the whole as well, if PAGE, as the whole was told it, is such a page at each of them. A time
+/// that the piece tells is that of the whole.
 pub fn pieces_say_no_more()
-    ensures { (choice : ChoiceData) (profile : List DeviceParts) (place there : ℕ → Place) (times theirs : ℕ → Option (List ℕ)) (before : List TransactionData) (n : ℕ) (spans : List Span)
+    ensures { (choice : ChoiceData) (profile : List DeviceParts) (place there : ℕ → Place) (times theirs : ℕ → Option (List ℕ)) (before within : List PastData) (n : ℕ) (spans : List Span)
         → IsBus profile → choice.start ≢ AllKnown → TellNoMore n times theirs
         → ((addr : ℕ) (device : DeviceParts) → device_with addr profile ≡ Some device → CanBeCutAfter choice.start device before)
-        → EachSaysNoMore SameTimes (objects_of choice profile (span_facts choice.ignored place times [] spans))
-        (objects_of (all_known choice) profile (span_facts choice.ignored there theirs before (moved_spans n spans))) }
+        → DropsOnOwnPages profile before within
+        → EachSaysNoMore SameTimes (objects_of choice profile (span_facts choice.ignored place times within spans))
+        (objects_of (all_known choice) profile (span_facts choice.ignored there theirs (before ++ within) (moved_spans n spans))) }
 {
     objects_are_of_facts();
     pieces_say_what_the_whole_says();
+    all_that_is_known_is_the_context();
+}
+
+/// A capture that has lost lines says nothing that was not so on the bus: where it is read late, and reading
+/// continues after lines that are dropped, each of its objects says what that of the capture with these lines
+/// says, but for where it stands, and for what isn't known, or is only assumed. So it is whatever packets the
+/// lines had, if after them PAGE of each device is a page that it has, or ffh; and if VOUT_MODE is taken for
+/// fixed, if on each page it is what it was before the line. Where the capture begins each device is to have such
+/// a PAGE, and such a VOUT_MODE on each page. A time that the piece tells is that of the whole.
+pub fn damaged_pieces_say_no_more()
+    ensures { (choice : ChoiceData) (profile : List DeviceParts) (place there : ℕ → Place) (times theirs : ℕ → Option (List ℕ)) (before ts : List TransactionData) (within : List PastData) (n : ℕ) (spans : List Span)
+        → TellNoMore n times theirs → CanBeMended choice.start profile before within ts
+        → EachSaysNoMore SameTimes (objects_of choice profile (span_facts choice.ignored place times within spans))
+        (objects_of (all_known choice) profile (span_facts choice.ignored there theirs (map Said (before ++ ts)) (moved_spans n spans))) }
+{
+    objects_are_of_facts();
+    what_is_known_is_certain();
     all_that_is_known_is_the_context();
 }
 
@@ -102,18 +127,21 @@ pub fn pieces_say_no_more()
 /// each of the rest's, whose object says no more than that of the whole: so each `value` that the rest
 /// gives is that of the whole, and each `time` too where the cut is at a line's end. (Where it is in the
 /// middle of a line, a comment after it can look like a time line of the rest.) So it is under a profile
-/// that is accepted.
+/// that is accepted, and where reading continues after lines of the rest that are dropped, if PAGE of each
+/// device is a page that it has, or ffh, at each of these lines that a fact follows.
 pub fn texts_of_pieces_say_no_more()
     ensures values { (choice : ChoiceData) (profile : List DeviceParts) (after : AfterBadToken) (front back : List ℕ)
-        (bad lines : List BadLine) (facts whole : List FactData) (c d : CountsData) → IsBus profile → choice.start ≢ AllKnown → CanBeCutBehind profile choice.start front
+        (bad lines : List BadLine) (facts whole : List FactData) (c d : CountsData) → IsBus profile → choice.start ≢ AllKnown → (first : CanBeCutBehind profile choice.start front)
         → FactsFrom choice.ignored profile after at_first back bad facts c
         → FactsFrom choice.ignored profile after at_first (front ++ back) lines whole d
+        → (after ≡ Continue → AllDropsOnOwnPages profile (past_in first.spans) facts)
         → (firsts : List FactData) × (others : List FactData) × (whole ≡ firsts ++ others)
         × EachSaysNoMore OtherTimes (objects_of choice profile facts) (objects_of (all_known choice) profile others) }
     ensures times { (choice : ChoiceData) (profile : List DeviceParts) (after : AfterBadToken) (front back : List ℕ)
-        (bad lines : List BadLine) (facts whole : List FactData) (c d : CountsData) → IsBus profile → choice.start ≢ AllKnown → CanBeCutBehind profile choice.start front → EndsWithLine front
+        (bad lines : List BadLine) (facts whole : List FactData) (c d : CountsData) → IsBus profile → choice.start ≢ AllKnown → (first : CanBeCutBehind profile choice.start front) → EndsWithLine front
         → FactsFrom choice.ignored profile after at_first back bad facts c
         → FactsFrom choice.ignored profile after at_first (front ++ back) lines whole d
+        → (after ≡ Continue → AllDropsOnOwnPages profile (past_in first.spans) facts)
         → (firsts : List FactData) × (others : List FactData) × (whole ≡ firsts ++ others)
         × EachSaysNoMore SameTimes (objects_of choice profile facts) (objects_of (all_known choice) profile others) }
 {

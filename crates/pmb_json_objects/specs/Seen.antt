@@ -1,22 +1,22 @@
--- What is known where a packet begins: the devices, and what the transactions before it have told.
+-- What is known where a packet begins: the devices, and what was told before it.
 use Rattle.std.specs.Prelude.{ℕ, Option, Some, None, List, option_map}
 use Rattle.pmb_command.specs.Entry.{EntryParts}
 use Rattle.pmb_command.specs.Parts.{CommandParts, DeviceParts, command_with, device_with}
 use Rattle.pmb_unknown_start.specs.declared.mode.KnownMode.{KnownMode}
 use Rattle.pmb_unknown_start.specs.declared.start.Start.{Start}
 use Rattle.pmb_unknown_start.specs.Known.{is_assumed, mode, page}
+use Rattle.pmb_unknown_start.specs.Past.{PastData}
 use Rattle.pmb_unknown_start.specs.Phase.{phase}
 use Rattle.pmb_json_fields.specs.declared.basis.Basis.{Basis}
 use Rattle.pmb_json_fields.specs.Value.{basis_of}
-use Rattle.pmb_transaction.specs.Transaction.{TransactionData}
 
--- The digits after a point, what is known of PAGE and VOUT_MODE at first, the devices, and the
--- transactions before the packet.
+-- The digits after a point, what is known of PAGE and VOUT_MODE at first, the devices, and what went
+-- before the packet: transactions, and lines that were dropped.
 pub record SeenData : Type 0 where
   pub digits : ℕ
   pub start : Start
   pub profile : List DeviceParts
-  pub before : List TransactionData
+  pub before : List PastData
 
 -- a command of a device, if there are both
 abbrev pub command_of : Option DeviceParts → ℕ → Option CommandParts

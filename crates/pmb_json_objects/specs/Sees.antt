@@ -4,7 +4,7 @@ use Rattle.pmb_unknown_start.specs.Late.{HasSeen}
 use Rattle.pmb_json_objects.specs.declared.seen.Seen.{Seen}
 use Rattle.pmb_json_objects.specs.Seen.{SeenData}
 
--- Its profile is the one of these devices, and its `Late` was given the transactions before.
+-- Its profile is the one of these devices, and its `Late` was given what went before.
 pub record Sees (seen : Seen) (known : SeenData) : Type 0 where
   pub digits : seen.digits ≡ known.digits
   pub profile : seen.profile.now ≡ known.profile

@@ -14,8 +14,8 @@ use pmb_keys::Command;
 use pmb_table::{DeviceProfile, Profile};
 use pmb_unknown_start::{KnownMode, Late};
 
-/// What is known where a packet begins: the devices, and what the transactions before have told of
-/// PAGE, PHASE and VOUT_MODE. Numbers get that many digits after the point.
+/// What is known where a packet begins: the devices, and what was told before of PAGE, PHASE and
+/// VOUT_MODE. Numbers get that many digits after the point.
 #[derive(Clone, Copy)]
 pub struct Seen<'s> {
     pub digits: Digits,

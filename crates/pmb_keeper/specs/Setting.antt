@@ -6,8 +6,8 @@ use Rattle.pmb_facts.specs.Fact.{BadToken}
 use Rattle.pmb_json_objects.specs.Head.{Head}
 use Rattle.pmb_json_objects.specs.Seen.{SeenData}
 use Rattle.pmb_keeper.specs.declared.nothing.Nothing.{Nothing}
-use Rattle.pmb_transaction.specs.Transaction.{TransactionData}
 use Rattle.pmb_unknown_start.specs.declared.start.Start.{Start}
+use Rattle.pmb_unknown_start.specs.Past.{PastData}
 
 -- What is the same for all facts of a capture: the digits after a point, what is known of PAGE and
 -- VOUT_MODE at first, and the devices.
@@ -19,13 +19,13 @@ pub record Setting : Type 0 where
 abbrev pub setting_of : SeenData → Setting
 setting_of seen = record { digits = seen.digits; start = seen.start; profile = seen.profile }
 
--- what is known there after some transactions
-abbrev pub seen_after : Setting → List TransactionData → SeenData
+-- what is known there after what went before
+abbrev pub seen_after : Setting → List PastData → SeenData
 seen_after setting before =
     record { digits = setting.digits; start = setting.start; profile = setting.profile; before = before }
 
--- the transactions before a fact; to an other and to a word that is no token they are nothing
-abbrev pub before_fact : List TransactionData → WhatData → List TransactionData
+-- what went before a fact; to an other and to a word that is no token it is nothing
+abbrev pub before_fact : List PastData → WhatData → List PastData
 before_fact before (Write part parts p) = before
 before_fact before (Read t) = before
 before_fact before (Call t) = before

@@ -26,6 +26,7 @@ use Rattle.pmb_transaction.proofs.Known.{device_is}
 use Rattle.pmb_transaction.specs.Packet.{Packet, PartsEvents, RefusedLeg}
 use Rattle.pmb_transaction.specs.Transaction.{PartData, RefusedData, TransactionData}
 use Rattle.pmb_transaction.specs.Transaction.{Write, Read, Call, Refused, Alert, NoAlert}
+use Rattle.pmb_unknown_start.specs.Past.{PastData}
 
 abbrev pub IsSmall : Option ℕ → Type 0
 IsSmall named = ForSome named (λ addr. addr < 128)
@@ -134,7 +135,7 @@ module _ (profile : List DeviceParts) (bus : IsBus profile) where
   refused_is_small parts addr [] true events leg = known_is_small addr leg.device leg.known
   refused_is_small parts addr (b ∷ bytes) true events leg = known_is_small addr leg.device leg.known
 
-  module _ (before : List TransactionData) (place : ℕ → Place) (time : Option (List ℕ)) where
+  module _ (before : List PastData) (place : ℕ → Place) (time : Option (List ℕ)) where
     writes_are_addressed : (part parts : ℕ) (ats : List ℕ) (ps : List PartData)
         → AllByRecursion (λ p. p.addr < 128) ps → AreAddressed (write_facts before place time part parts ats ps)
     writes_are_addressed part parts ats [] small = tt

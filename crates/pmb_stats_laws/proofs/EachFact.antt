@@ -27,13 +27,14 @@ use Rattle.pmb_transaction.specs.declared.reason.Reason.{Reason}
 use Rattle.pmb_transaction.specs.Packet.{Packet}
 use Rattle.pmb_transaction.specs.Reading.{RefusalData}
 use Rattle.pmb_transaction.specs.Transaction.{TransactionData}
+use Rattle.pmb_unknown_start.specs.Past.{PastData, Said}
 
 -- it holds of each of these, where the events of a text have bytes
 pub record HoldsOfEach (P : FactData → Type 0) (ignored : Option (List ℕ)) (profile : List DeviceParts) : Type 0 where
-  pub packet : (before : List TransactionData) (place : ℕ → Place) (time : Option (List ℕ)) (n : ℕ)
+  pub packet : (before : List PastData) (place : ℕ → Place) (time : Option (List ℕ)) (n : ℕ)
       (events : List Event) (t : TransactionData) → Packet profile t events
       → AllByRecursion P (packet_facts before place time n events t)
-  pub refusal : (before : List TransactionData) (head : Head) (front : List Event) (event : Option Event)
+  pub refusal : (before : List PastData) (head : Head) (front : List Event) (event : Option Event)
       (reason : Reason) (expected : Kinds) → AreBytes front → P (refusal_fact before head front event reason expected)
   pub other : (head : Head) (addr : ℕ) (events : List Event) → AreBytes events
       → other_address ignored events ≡ Some addr → P (other_fact head addr)
@@ -57,7 +58,7 @@ module _ (P : FactData → Type 0) (ignored : Option (List ℕ)) (profile : List
         either_holds n (other_address ignored events) own
         (λ addr is. holds.other (head_at place (times n) (n + 1)) addr events bytes is) are
 
-    refused_holds : (before : List TransactionData) (n : ℕ) (front : List Event) (event : Option Event)
+    refused_holds : (before : List PastData) (n : ℕ) (front : List Event) (event : Option Event)
         (refusal : RefusalData) → AreBytes front
         → AllByRecursion P (refused_span place times before n front event refusal ∷ [])
     refused_holds before n front event refusal bytes = (
@@ -66,15 +67,15 @@ module _ (P : FactData → Type 0) (ignored : Option (List ℕ)) (profile : List
       tt,
     )
 
-    pub spans_hold : (before : List TransactionData) (spans : List Span) → AreSpelled profile spans
+    pub spans_hold : (before : List PastData) (spans : List Span) → AreSpelled profile spans
         → AllByRecursion P (span_facts ignored place times before spans)
     spans_hold before [] spelled = tt
     spans_hold before (ReadSpan n events t ∷ spans) spelled =
         let own = packet_facts before place (times n) n events t in
         each_of_both P (other_or place times n (other_address ignored events) own)
-        (span_facts ignored place times (before ++ t ∷ []) spans)
+        (span_facts ignored place times (before ++ Said t ∷ []) spans)
         (span_holds n events own spelled.0.1 (holds.packet before place (times n) n events t spelled.0.0))
-        (spans_hold (before ++ t ∷ []) spans spelled.1)
+        (spans_hold (before ++ Said t ∷ []) spans spelled.1)
     spans_hold before (RefusedSpan n front event refusal ∷ spans) spelled =
         let all = front ++ event ∷ [] in
         let own = refused_span place times before n front (Some event) refusal ∷ [] in
@@ -99,7 +100,7 @@ module _ (P : FactData → Type 0) (ignored : Option (List ℕ)) (profile : List
       let times = event_time b.n (bad.front ++ bad.line) in
       subst (AllByRecursion P) (sym all) (each_of_both P (bad_line_facts ignored b bad) others
       (each_of_both P (front_facts ignored b bad) (word_fact b bad ∷ [])
-      (spans_hold place times b.ts bad.spans (line_is_spelled ignored profile b bad is))
+      (spans_hold place times b.past bad.spans (line_is_spelled ignored profile b bad is))
       (holds.bad_token (word_head b bad) (front_word bad.line), tt)) rest)
 
   -- the facts of bytes from anywhere on
@@ -108,7 +109,7 @@ module _ (P : FactData → Type 0) (ignored : Option (List ℕ)) (profile : List
       → AllByRecursion P facts
   text_holds after b bytes [] facts counts end =
       subst (AllByRecursion P) (sym end.all)
-      (spans_hold (event_place b.read b.n bytes) (event_time b.n bytes) b.ts end.spans
+      (spans_hold (event_place b.read b.n bytes) (event_time b.n bytes) b.past end.spans
       (end_is_spelled ignored profile b bytes facts counts end))
   text_holds End b bytes (bad ∷ more) facts counts (rest, others, split, behind, is, all, on) =
       line_holds b bad facts others is all (subst (AllByRecursion P) (sym on.1) tt)

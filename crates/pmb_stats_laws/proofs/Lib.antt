@@ -1,3 +1,4 @@
+mod Adding
 mod Addressed
 mod Counted
 mod DeviceWeights

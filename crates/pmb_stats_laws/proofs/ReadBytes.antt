@@ -13,6 +13,7 @@ use Rattle.pmb_stats_laws.proofs.Faults.{HasBytes}
 use Rattle.pmb_transaction.specs.Packet.{Packet}
 use Rattle.pmb_transaction.specs.Transaction.{PartData, RefusedData, TransactionData}
 use Rattle.pmb_transaction.specs.Transaction.{Write, Read, Call, Refused, Alert, NoAlert}
+use Rattle.pmb_unknown_start.specs.Past.{PastData}
 
 abbrev pub RepliesBytes : FactData → Type 0
 RepliesBytes fact = HasBytes fact.what
@@ -20,7 +21,7 @@ RepliesBytes fact = HasBytes fact.what
 abbrev AllReplyBytes : List FactData → Type 0
 AllReplyBytes facts = AllByRecursion RepliesBytes facts
 
-module _ (before : List TransactionData) (place : ℕ → Place) (time : Option (List ℕ)) where
+module _ (before : List PastData) (place : ℕ → Place) (time : Option (List ℕ)) where
   writes_reply : (part parts : ℕ) (ats : List ℕ) (ps : List PartData)
       → AllReplyBytes (write_facts before place time part parts ats ps)
   writes_reply part parts ats [] = tt

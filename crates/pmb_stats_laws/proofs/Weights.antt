@@ -29,6 +29,7 @@ use Rattle.pmb_transaction.specs.Packet.{Packet, PartsEvents, RefusedLeg}
 use Rattle.pmb_transaction.specs.Transaction.{PartData, RefusedData, TransactionData}
 use Rattle.pmb_transaction.specs.Transaction.{Write, Read, Call, Refused, Alert, NoAlert}
 use Rattle.pmb_transaction.specs.declared.reason.Reason.{Reason}
+use Rattle.pmb_unknown_start.specs.Past.{PastData, Said}
 
 -- ---- STARTs of packets
 
@@ -99,7 +100,7 @@ module _ (weight : WhatData → ℕ) where
   packet_weight (Alert t) = weight (fact.Alert t)
   packet_weight NoAlert = weight fact.NoAlert
 
-  module _ (before : List TransactionData) (place : ℕ → Place) (time : Option (List ℕ)) where
+  module _ (before : List PastData) (place : ℕ → Place) (time : Option (List ℕ)) where
     writes_weigh : (part parts : ℕ) (ats : List ℕ) (ps : List PartData) → length ps ≤ length ats
         → weigh weight (write_facts before place time part parts ats ps) ≡ parts_weight part parts ps
     writes_weigh part parts ats [] few = refl
@@ -204,7 +205,7 @@ module _ (count : CountsData → ℕ) (weight : WhatData → ℕ) (agrees : Agre
         → e ≡ c + weigh weight (own ++ more)
     span_more c d e own more first rest = omega (arith, first, rest, weigh_both weight own more)
 
-    pub spans_agree : (c : CountsData) (before : List TransactionData) (spans : List Span) → AreSpelled profile spans
+    pub spans_agree : (c : CountsData) (before : List PastData) (spans : List Span) → AreSpelled profile spans
         → count (after_spans ignored c spans) ≡ count c + weigh weight (span_facts ignored place times before spans)
     spans_agree c before [] spelled = omega arith
     spans_agree c before (ReadSpan n events t ∷ spans) spelled =
@@ -212,13 +213,13 @@ module _ (count : CountsData → ℕ) (weight : WhatData → ℕ) (agrees : Agre
         let other = other_address ignored events in
         let own = packet_facts before place (times n) n events t in
         span_more (count c) (count (after_span ignored c span)) (count (after_spans ignored c (span ∷ spans)))
-        (other_or place times n other own) (span_facts ignored place times (before ++ t ∷ []) spans)
+        (other_or place times n other own) (span_facts ignored place times (before ++ Said t ∷ []) spans)
         (either_agrees c n other span own (omega (
           arith,
           agrees.packet c t (packets_have_parts profile t events spelled.0.0),
           packet_weighs weight before place (times n) profile n events t spelled.0.0,
         )))
-        (spans_agree (after_span ignored c span) (before ++ t ∷ []) spans spelled.1)
+        (spans_agree (after_span ignored c span) (before ++ Said t ∷ []) spans spelled.1)
     spans_agree c before (RefusedSpan n front event refusal ∷ spans) spelled =
         let span = RefusedSpan n front event refusal in
         let other = other_address ignored (front ++ event ∷ []) in
@@ -261,7 +262,7 @@ module _ (count : CountsData → ℕ) (weight : WhatData → ℕ) (agrees : Agre
         weigh_both weight (bad_line_facts ignored b bad) others,
         weigh_both weight (front_facts ignored b bad) (word ∷ []),
         weigh_one weight word,
-        spans_agree place times b.counts b.ts bad.spans (line_is_spelled ignored profile b bad is),
+        spans_agree place times b.counts b.past bad.spans (line_is_spelled ignored profile b bad is),
         agrees.bad_token (after_spans ignored b.counts bad.spans) (take 32 (front_word bad.line)),
       )
 
@@ -276,7 +277,7 @@ module _ (count : CountsData → ℕ) (weight : WhatData → ℕ) (agrees : Agre
       → count counts ≡ count b.counts + weigh weight facts
   text_agrees after b bytes [] facts counts end =
       ap count end.behind
-      ∙ (spans_agree (event_place b.read b.n bytes) (event_time b.n bytes) b.counts b.ts end.spans
+      ∙ (spans_agree (event_place b.read b.n bytes) (event_time b.n bytes) b.counts b.past end.spans
       (end_is_spelled ignored profile b bytes facts counts end)
       ∙ sym (ap (λ fs. count b.counts + weigh weight fs) end.all))
   text_agrees End b bytes (bad ∷ more) facts counts (rest, others, split, behind, is, all, on) =

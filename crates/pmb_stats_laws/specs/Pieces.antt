@@ -1,6 +1,7 @@
 -- What is counted of two pieces of a capture, and of the whole.
 use Rattle.std.specs.Prelude.{◌≡◌, ℕ, ◌+◌, List}
 use Rattle.pmb_facts.specs.Fact.{FactData}
+use Rattle.pmb_json_objects.specs.Counts.{CountsData, sum_of}
 use Rattle.pmb_stats.specs.BitCounts.{bit_count}
 use Rattle.pmb_stats_counts.specs.Counts.{bad_tokens, count_in_all, count_of, count_of_none, packets}
 use Rattle.pmb_stats_counts.specs.declared.sort.Sort.{Sort}
@@ -18,3 +19,16 @@ pub record CountsAddUp (firsts others whole : List FactData) : Type 0 where
   -- of the reads of each status register that found a bit set, whatever page was selected
   pub of_bits : (addr code bit : ℕ)
       → bit_count addr code bit whole ≡ bit_count addr code bit firsts + bit_count addr code bit others
+
+-- What the last objects of `json` tell of two pieces, added up: of each device, and in all. `S b0 A 03 A P` has
+-- one packet, and of 58h one write. `S 40 N P S b0 A 03 A` has one packet and one refusal, at its end, and of 20h
+-- one refused, of 58h one refusal. In all they have two packets and one refusal; of 20h one refused, and of 58h
+-- one write and one refusal.
+abbrev pub sum_of_told : CountsData → CountsData → CountsData
+sum_of_told first second = record {
+  of_device = λ addr. sum_of (first.of_device addr) (second.of_device addr);
+  packets = first.packets + second.packets;
+  refusals = first.refusals + second.refusals;
+  bad_tokens = first.bad_tokens + second.bad_tokens;
+  others = first.others + second.others;
+}

@@ -3,8 +3,11 @@
 ghost use Rattle.std.specs.Prelude.{◌≡◌, ◌↔◌, ℕ, ◌+◌, true, Option, List, ◌++◌};
 ghost use Rattle.pmb_command.specs.Bus.{IsBus};
 ghost use Rattle.pmb_command.specs.Parts.{DeviceParts};
+ghost use Rattle.pmb_capture.specs.Cut.{EndsAtCut, sum_of};
 ghost use Rattle.pmb_facts.specs.Fact.{FactData};
+ghost use Rattle.pmb_fact_stream.specs.Choice.{ChoiceData};
 ghost use Rattle.pmb_io.specs.Count.{capped};
+ghost use Rattle.pmb_io.specs.declared.tally.Tally.{Tally};
 ghost use Rattle.pmb_json.specs.Cut.{AreFactsOf, AreOfPieces, said_in};
 ghost use Rattle.pmb_scan.specs.declared.after_bad_token.AfterBadToken.{AfterBadToken};
 ghost use Rattle.pmb_keeper.specs.Setting.{Setting};
@@ -15,8 +18,9 @@ ghost use Rattle.pmb_stats_counts.specs.Sums.{sum_below};
 ghost use Rattle.pmb_stats_counts.specs.declared.fail.Fail.TheVariants.{Faults};
 ghost use Rattle.pmb_stats_counts.specs.declared.sort.Sort.{Sort};
 ghost use Rattle.pmb_stats_laws.specs.Faults.{FaultIsFound};
-ghost use Rattle.pmb_stats_laws.specs.Pieces.{CountsAddUp};
+ghost use Rattle.pmb_stats_laws.specs.Pieces.{CountsAddUp, sum_of_told};
 ghost use Rattle.pmb_stats_laws.specs.Told.{CountsAreTold};
+ghost use Rattle.pmb_telling.specs.Text.{WritesTold};
 
 use pmb_json::laws::pieces_say_the_same;
 use pmb_stats::laws::pages_make_the_whole;
@@ -77,6 +81,29 @@ pub fn counts_are_those_of_json()
     ensures { (ignored : Option (List ℕ)) (profile : List DeviceParts) (after : AfterBadToken) (bytes : List ℕ) (facts : List FactData)
         → (are : AreFactsOf ignored profile after bytes facts) → CountsAreTold facts are.counts }
 {}
+
+/// So what the last objects of `json` tell of two pieces of a capture adds up to what they tell of the whole, of
+/// each device and in all, where the capture is cut between words behind a STOP, with no bad token before it. The
+/// second piece may be any bytes. So it is under a profile that is accepted, whichever addresses are ignored.
+pub fn told_counts_of_pieces_add_up()
+    ensures { (ignored : Option (List ℕ)) (profile : List DeviceParts) (after : AfterBadToken) (front back : List ℕ) (firsts others whole : List FactData)
+        → IsBus profile → (pieces : AreOfPieces ignored profile after front back firsts others whole)
+        → pieces.both.counts ≡ sum_of_told pieces.first.counts pieces.second.counts }
+{
+    counts_of_pieces_add_up();
+    counts_are_those_of_json();
+}
+
+/// And so do the tallies of what `json`, `log` and `stats` write of them, which stay at the greatest u64, as those
+/// of a check do (`counts_add_up` of `pmb_capture`). A bad token is a refusal there, and others are nothing.
+pub fn tallies_of_pieces_add_up()
+    ensures { (choice : ChoiceData) (profile : List DeviceParts) (after : AfterBadToken) (front back a b text : List ℕ) (s t tally : Tally)
+        → IsBus profile → EndsAtCut front → WritesTold choice profile after front a s → WritesTold choice profile after back b t
+        → WritesTold choice profile after (front ++ back) text tally → tally ≡ sum_of s t }
+{
+    told_counts_of_pieces_add_up();
+    capped_counts_add_up();
+}
 
 /// What `--fail-on faults` looks for is there exactly where some read of a capture found a bit set that tells of a
 /// fault: a bit of a status register of the profile, with a count that is not 0. The counts that are told of that

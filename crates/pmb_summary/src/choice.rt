@@ -13,7 +13,7 @@ use pmb_unknown_start::Start;
 pub struct SumsChoice<'c> {
     /// The most digits after the point of a number.
     pub digits: Digits,
-    /// What is known of PAGE and VOUT_MODE where the capture begins.
+    /// What is known of PAGE and VOUT_MODE where the capture begins, and after a line that was dropped.
     pub start: Start,
     /// The addresses of the devices whose sums are wanted, of seven bits; all where there is none. The
     /// sums of the whole, and what makes the status 1, are of all devices.

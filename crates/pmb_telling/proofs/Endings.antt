@@ -42,7 +42,7 @@ use Rattle.pmb_fact_stream.specs.declared.kept_stream.KeptStream.{KeptStream}
 use Rattle.pmb_fact_stream.specs.Before.{Before}
 use Rattle.pmb_fact_stream.specs.Choice.{ChoiceData}
 use Rattle.pmb_fact_stream.specs.Others.{is_told, is_untold}
-use Rattle.pmb_fact_stream.specs.Spans.{after_spans, event_place, event_time, transactions_in}
+use Rattle.pmb_fact_stream.specs.Spans.{after_spans, event_place, event_time, past_in}
 
 -- ---- what is used of laws
 
@@ -137,7 +137,7 @@ module _ {K : Type 0} (Keeps : K → Setting → List FactData → Type 0) (choi
     ends_read : (events : List Event) (others : List Span) → Spells behind.holds.reached.text events
         → Spans behind.holds.reached.profile events (behind.holds.reached.spans ++ others)
         → (left : List FactData) × (text_facts choice.ignored behind.b behind.holds.reached.text
-        (behind.b.ts ++ transactions_in behind.holds.reached.spans) (moved_spans behind.b.n others)
+        (behind.b.past ++ past_in behind.holds.reached.spans) (moved_spans behind.b.n others)
         ≡ facts_out choice.ignored behind.b behind.holds.reached behind.holds.reached.text ++ left) → WritesMore
     ends_read events others spells spans left =
         let b = behind.b in
@@ -206,7 +206,7 @@ module _ {K : Type 0} (Keeps : K → Setting → List FactData → Type 0) (choi
         []).lines
         ∙ (ap (fact_lines choice profile) (facts_told choice.ignored b there (there.text ++ []) last tells)
         ∙ ap (λ (l : List ℕ). fact_lines choice profile
-        (text_facts choice.ignored b l b.ts
+        (text_facts choice.ignored b l b.past
         (moved_spans b.n (there.spans ++ filter (is_told choice.ignored) last))))
         (append-nil there.text ∙ first.split)))
 
@@ -218,10 +218,10 @@ module _ {K : Type 0} (Keeps : K → Setting → List FactData → Type 0) (choi
     ends_in_words spells_none last end tells follows (inl spells) =
         let b = behind.b in
         let there = behind.holds.reached in
-        let ts = b.ts ++ transactions_in there.spans in
+        let past = b.past ++ past_in there.spans in
         ends_read there.events last spells end.spans (
-          text_facts choice.ignored b there.text ts (moved_spans b.n (filter (is_untold choice.ignored) last)),
-          sym (tells.rest (event_place b.read b.n there.text) (event_time b.n there.text) ts b.n),
+          text_facts choice.ignored b there.text past (moved_spans b.n (filter (is_untold choice.ignored) last)),
+          sym (tells.rest (event_place b.read b.n there.text) (event_time b.n there.text) past b.n),
         )
     ends_in_words spells_none last end tells follows (inr (inl one)) =
         let b = behind.b in
@@ -229,7 +229,7 @@ module _ {K : Type 0} (Keeps : K → Setting → List FactData → Type 0) (choi
         let more = follows (one.0 ∷ []) in
         ends_read (there.events ++ one.0 ∷ []) more.others one.1 more.spans
         (more.left (event_place b.read b.n there.text) (event_time b.n there.text)
-        (b.ts ++ transactions_in there.spans) b.n)
+        (b.past ++ past_in there.spans) b.n)
     ends_in_words spells_none last end tells follows (inr (inr bad)) =
         ends_in_word spells_none last bad.0 end tells bad.1
 

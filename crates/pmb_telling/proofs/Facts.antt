@@ -22,8 +22,8 @@ use Rattle.pmb_spans.specs.Spans.{Span, ReadSpan, RefusedSpan, TruncatedSpan, is
 use Rattle.pmb_fact_stream.specs.Choice.{ChoiceData}
 use Rattle.pmb_fact_stream.specs.Others.{is_other, is_told, other_address, span_events}
 use Rattle.pmb_fact_stream.specs.Spans.{after_either, after_reported, after_span, after_spans, other_or, refused_span}
-use Rattle.pmb_fact_stream.specs.Spans.{span_facts, transactions_in}
-use Rattle.pmb_transaction.specs.Transaction.{TransactionData}
+use Rattle.pmb_fact_stream.specs.Spans.{past_in, span_facts}
+use Rattle.pmb_unknown_start.specs.Past.{PastData, Said}
 
 -- ---- lines
 
@@ -37,18 +37,18 @@ module _ (choice : ChoiceData) (profile : List DeviceParts) where
 
 -- ---- spans moved
 
-pub transactions_moved : (n : ℕ) (spans : List Span) → transactions_in (moved_spans n spans) ≡ transactions_in spans
-transactions_moved n [] = refl
-transactions_moved n (ReadSpan m events t ∷ spans) = ap (λ (ts : List TransactionData). t ∷ ts)
-    (transactions_moved n spans)
-transactions_moved n (RefusedSpan m front event refusal ∷ spans) = transactions_moved n spans
-transactions_moved n (TruncatedSpan m front refusal ∷ spans) = transactions_moved n spans
+pub past_moved : (n : ℕ) (spans : List Span) → past_in (moved_spans n spans) ≡ past_in spans
+past_moved n [] = refl
+past_moved n (ReadSpan m events t ∷ spans) = ap (λ (past : List PastData). Said t ∷ past)
+    (past_moved n spans)
+past_moved n (RefusedSpan m front event refusal ∷ spans) = past_moved n spans
+past_moved n (TruncatedSpan m front refusal ∷ spans) = past_moved n spans
 
-pub transactions_append : (a b : List Span) → transactions_in (a ++ b) ≡ transactions_in a ++ transactions_in b
-transactions_append [] b = refl
-transactions_append (ReadSpan m events t ∷ a) b = ap (λ (ts : List TransactionData). t ∷ ts) (transactions_append a b)
-transactions_append (RefusedSpan m front event refusal ∷ a) b = transactions_append a b
-transactions_append (TruncatedSpan m front refusal ∷ a) b = transactions_append a b
+pub past_append : (a b : List Span) → past_in (a ++ b) ≡ past_in a ++ past_in b
+past_append [] b = refl
+past_append (ReadSpan m events t ∷ a) b = ap (λ (past : List PastData). Said t ∷ past) (past_append a b)
+past_append (RefusedSpan m front event refusal ∷ a) b = past_append a b
+past_append (TruncatedSpan m front refusal ∷ a) b = past_append a b
 
 -- where these addresses are ignored
 module _ (ignored : Option (List ℕ)) where
@@ -108,15 +108,15 @@ module _ (ignored : Option (List ℕ)) where
       ∙ moved_if n span (filter (is_told ignored) spans) (is_told ignored span))
 
   -- an end inside a packet is no transaction, whether it is told or not
-  tells_none_if : (span : Span) (spans : List Span) (told : Bool) → transactions_in (span ∷ []) ≡ []
-      → transactions_in spans ≡ [] → transactions_in (cond told (span ∷ spans) spans) ≡ []
+  tells_none_if : (span : Span) (spans : List Span) (told : Bool) → past_in (span ∷ []) ≡ []
+      → past_in spans ≡ [] → past_in (cond told (span ∷ spans) spans) ≡ []
   tells_none_if span spans true own none =
-      transactions_append (span ∷ []) spans ∙ (ap (λ (ts : List TransactionData). ts ++ transactions_in spans) own
+      past_append (span ∷ []) spans ∙ (ap (λ (past : List PastData). past ++ past_in spans) own
       ∙ none)
   tells_none_if span spans false own none = none
 
   pub ends_tell_none : (last : List Span) → filter is_whole last ≡ []
-      → transactions_in (filter (is_told ignored) last) ≡ []
+      → past_in (filter (is_told ignored) last) ≡ []
   ends_tell_none [] inside = refl
   ends_tell_none (ReadSpan m events t ∷ last) inside = absurd (cc inside)
   ends_tell_none (RefusedSpan m front event refusal ∷ last) inside = absurd (cc inside)
@@ -138,29 +138,29 @@ all_told ignored (span ∷ spans) whole =
 -- ---- facts
 
 module _ (ignored : Option (List ℕ)) (place : ℕ → Place) (times : ℕ → Option (List ℕ)) where
-  pub facts_append : (before : List TransactionData) (a b : List Span)
+  pub facts_append : (before : List PastData) (a b : List Span)
       → span_facts ignored place times before (a ++ b) ≡ span_facts ignored place times before a
-      ++ span_facts ignored place times (before ++ transactions_in a) b
-  facts_append before [] b = ap (λ (ts : List TransactionData). span_facts ignored place times ts b)
+      ++ span_facts ignored place times (before ++ past_in a) b
+  facts_append before [] b = ap (λ (past : List PastData). span_facts ignored place times past b)
       (sym (append-nil before))
   facts_append before (ReadSpan n events t ∷ a) b =
       let own = other_or place times n (other_address ignored events)
       (packet_facts before place (times n) n events t) in
       ap (λ (l : List FactData). own ++ l)
-      (facts_append (before ++ t ∷ []) a b
-      ∙ ap (λ (ts : List TransactionData). span_facts ignored place times (before ++ t ∷ []) a
-      ++ span_facts ignored place times ts b) (append_assoc before (t ∷ []) (transactions_in a)))
-      ∙ sym (append_assoc own (span_facts ignored place times (before ++ t ∷ []) a)
-      (span_facts ignored place times (before ++ t ∷ transactions_in a) b))
+      (facts_append (before ++ Said t ∷ []) a b
+      ∙ ap (λ (past : List PastData). span_facts ignored place times (before ++ Said t ∷ []) a
+      ++ span_facts ignored place times past b) (append_assoc before (Said t ∷ []) (past_in a)))
+      ∙ sym (append_assoc own (span_facts ignored place times (before ++ Said t ∷ []) a)
+      (span_facts ignored place times (before ++ Said t ∷ past_in a) b))
   facts_append before (RefusedSpan n front event refusal ∷ a) b =
       let own = other_or place times n (other_address ignored (front ++ event ∷ []))
       (refused_span place times before n front (Some event) refusal ∷ []) in
       ap (λ (l : List FactData). own ++ l) (facts_append before a b)
       ∙ sym (append_assoc own (span_facts ignored place times before a)
-      (span_facts ignored place times (before ++ transactions_in a) b))
+      (span_facts ignored place times (before ++ past_in a) b))
   facts_append before (TruncatedSpan n front refusal ∷ a) b =
       let own = other_or place times n (other_address ignored front)
       (refused_span place times before n front None refusal ∷ []) in
       ap (λ (l : List FactData). own ++ l) (facts_append before a b)
       ∙ sym (append_assoc own (span_facts ignored place times before a)
-      (span_facts ignored place times (before ++ transactions_in a) b))
+      (span_facts ignored place times (before ++ past_in a) b))

@@ -17,7 +17,7 @@ use Rattle.pmb_telling.specs.machine.Standing.{HasBadWord, InBadLine, IsBadSoFar
 use Rattle.pmb_telling.specs.machine.Standing.{last_word_lines, longer_line, open_word_fact}
 use Rattle.pmb_telling.proofs.Lines.{behind_front}
 use Rattle.pmb_telling.proofs.Facts.{counts_append, counts_moved, ends_tell_none, lines_append, told_moved}
-use Rattle.pmb_telling.proofs.Facts.{transactions_append, transactions_moved}
+use Rattle.pmb_telling.proofs.Facts.{past_append, past_moved}
 use Rattle.pmb_telling.proofs.OpenOthers.{TellsOpen, facts_told}
 use Rattle.pmb_telling.proofs.Words.{no_lf_append, solid_both}
 use Rattle.pmb_fact_stream.specs.Spans.{bad_token_fact}
@@ -35,24 +35,24 @@ use Rattle.pmb_fact_stream.specs.declared.stream.Stream.{Stream}
 use Rattle.pmb_fact_stream.specs.Before.{Before, with_bytes, with_reached}
 use Rattle.pmb_fact_stream.specs.Choice.{ChoiceData}
 use Rattle.pmb_fact_stream.specs.Others.{is_told}
-use Rattle.pmb_fact_stream.specs.Spans.{after_open, after_spans, transactions_in}
+use Rattle.pmb_fact_stream.specs.Spans.{after_open, after_spans, past_in}
 use Rattle.pmb_fact_stream.specs.Keeping.{IsTold, KeepsOn}
 use Rattle.pmb_fact_stream.specs.Stream.{HoldsOf, KeepsOpenTime, StreamKnows, kept_by, stream_time}
 use Rattle.pmb_fact_stream.proofs.Keeping.{keeps_both}
 use Rattle.pmb_fact_stream.specs.UnderWay.{open_time}
-use Rattle.pmb_transaction.specs.Transaction.{TransactionData}
+use Rattle.pmb_unknown_start.specs.Past.{PastData}
 
 -- ---- what a stream knows, said otherwise
 
-pub knows_as : (read other : List ℕ) (n : ℕ) (ts us : List TransactionData) (c d : CountsData) (stream : Stream)
-    → read ≡ other → ts ≡ us → c ≡ d
-    → StreamKnows (record { read = read; n = n; ts = ts; counts = c }) stream
-    → StreamKnows (record { read = other; n = n; ts = us; counts = d }) stream
-knows_as read other n ts us c d stream reads transactions counts knows =
-    subst (λ (r : List ℕ). StreamKnows (record { read = r; n = n; ts = us; counts = d }) stream) reads
-    (subst (λ (t : List TransactionData). StreamKnows (record { read = read; n = n; ts = t; counts = d }) stream)
-    transactions
-    (subst (λ (e : CountsData). StreamKnows (record { read = read; n = n; ts = ts; counts = e }) stream) counts knows))
+pub knows_as : (read other : List ℕ) (n : ℕ) (past also : List PastData) (c d : CountsData) (stream : Stream)
+    → read ≡ other → past ≡ also → c ≡ d
+    → StreamKnows (record { read = read; n = n; past = past; counts = c }) stream
+    → StreamKnows (record { read = other; n = n; past = also; counts = d }) stream
+knows_as read other n past also c d stream reads said counts knows =
+    subst (λ (r : List ℕ). StreamKnows (record { read = r; n = n; past = also; counts = d }) stream) reads
+    (subst (λ (t : List PastData). StreamKnows (record { read = read; n = n; past = t; counts = d }) stream)
+    said
+    (subst (λ (e : CountsData). StreamKnows (record { read = read; n = n; past = past; counts = e }) stream) counts knows))
 
 -- the time of what is under way stays, whatever follows in the text
 abbrev pub TimesStay : Type 0
@@ -220,20 +220,20 @@ module _ (choice : ChoiceData) (profile : List DeviceParts) where
       -- an end inside a packet tells of no transaction; if it is told, it was counted
       let out = filter (is_told choice.ignored) last in
       let spans = reached.spans ++ out in
-      let same_ts : transactions_in (moved_spans b.n spans) ≡ transactions_in reached.spans =
-      transactions_moved b.n spans ∙ (transactions_append reached.spans out
-      ∙ (ap (λ (ts : List TransactionData). transactions_in reached.spans ++ ts)
-      (ends_tell_none choice.ignored last end.inside) ∙ append-nil (transactions_in reached.spans))) in
+      let same_past : past_in (moved_spans b.n spans) ≡ past_in reached.spans =
+      past_moved b.n spans ∙ (past_append reached.spans out
+      ∙ (ap (λ (past : List PastData). past_in reached.spans ++ past)
+      (ends_tell_none choice.ignored last end.inside) ∙ append-nil (past_in reached.spans))) in
       let counts = after_spans choice.ignored b.counts reached.spans in
       let same_counts : after_spans choice.ignored b.counts (moved_spans b.n spans)
       ≡ after_open choice.ignored counts reached.standing =
       counts_moved choice.ignored b.counts b.n spans
       ∙ (counts_append choice.ignored b.counts reached.spans out ∙ tells.counts counts) in
       knows_as (b.read ++ reached.text) ((b.read ++ front) ++ open_word reached.text) (b.n + length reached.events)
-      (b.ts ++ transactions_in reached.spans) (b.ts ++ transactions_in (moved_spans b.n spans))
+      (b.past ++ past_in reached.spans) (b.past ++ past_in (moved_spans b.n spans))
       (after_open choice.ignored counts reached.standing) (after_spans choice.ignored b.counts (moved_spans b.n spans))
       stream (ap (λ (l : List ℕ). b.read ++ l) split ∙ sym (append_assoc b.read front (open_word reached.text)))
-      (ap (λ (l : List TransactionData). b.ts ++ l) (sym same_ts)) (sym same_counts) knows
+      (ap (λ (l : List PastData). b.past ++ l) (sym same_past)) (sym same_counts) knows
 
   -- the time that the stream keeps there is that of what is under way
   pub met_time : (reached : Reached) (front rest : List ℕ) (stream : Stream) → TimesStay
@@ -255,7 +255,7 @@ module _ (choice : ChoiceData) (profile : List DeviceParts) where
       let spans = moved_spans b.n (reached.spans ++ filter (is_told choice.ignored) last) in
       subst Holds
       (facts_told choice.ignored b reached (reached.text ++ more) last tells
-      ∙ ap (λ (l : List ℕ). text_facts choice.ignored b l b.ts spans)
+      ∙ ap (λ (l : List ℕ). text_facts choice.ignored b l b.past spans)
       (ap (λ (l : List ℕ). l ++ more) split ∙ append_assoc front (open_word reached.text) more)) (holds more)
 
   pub has_met : {K : Type 0} (Keeps : K → Setting → List FactData → Type 0) (keeper : K) (b : Before)
@@ -321,14 +321,14 @@ module _ (choice : ChoiceData) (profile : List DeviceParts) where
             (record {
               read = l;
               n = b.n + length bad.events;
-              ts = b.ts ++ transactions_in bad.spans;
+              past = b.past ++ past_in bad.spans;
               counts =
                   after_spans choice.ignored b.counts bad.spans;
             }) new)
             (append_assoc (b.read ++ bad.front) bad.line word) (takes (behind_bytes choice.ignored b bad) has.knows);
         time = timed ∙ has.time;
         told = λ more. subst (λ (l : List ℕ). IsTold choice profile (KeptIn Keeps choice profile keeper)
-            (KeptIn Keeps choice profile old.keeper) put (text_facts choice.ignored b (bad.front ++ l) b.ts bad.spans))
+            (KeptIn Keeps choice profile old.keeper) put (text_facts choice.ignored b (bad.front ++ l) b.past bad.spans))
             (sym (append_assoc bad.line word more)) (has.told (word ++ more));
       }
 
@@ -359,7 +359,7 @@ module _ (choice : ChoiceData) (profile : List DeviceParts) where
             (record {
               read = l;
               n = b.n + length bad.events;
-              ts = b.ts ++ transactions_in bad.spans;
+              past = b.past ++ past_in bad.spans;
               counts =
                   (behind_fact choice.ignored b bad).counts;
             }) new)

@@ -49,7 +49,7 @@ module _ (choice : ChoiceData) (profile : List DeviceParts)
       let events = one_ended bytes x.events y.events x.spells y.spells in
       let spans = one_list_of_spans b.n y.events x.spans y.spans
       (subst (λ (es : List Event). SpansFrom profile b.n es x.spans) events x.reads) y.reads in
-      x.all ∙ ap (λ (l : List Span). text_facts choice.ignored b bytes b.ts
+      x.all ∙ ap (λ (l : List Span). text_facts choice.ignored b bytes b.past
       (filter (is_told choice.ignored) l)) spans ∙ sym y.all
 
   -- a bad line is the first of its text whatever follows

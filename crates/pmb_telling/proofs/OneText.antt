@@ -52,7 +52,7 @@ module _ (ignored : Option (List ℕ)) (profile : List DeviceParts)
       let events = one_spelling bytes x.events y.events x.spells y.spells in
       let spans = one_list_of_spans b.n y.events x.spans y.spans
       (subst (λ (es : List Event). SpansFrom profile b.n es x.spans) events x.reads) y.reads in (
-        x.all ∙ ap (text_facts ignored b bytes b.ts) spans ∙ sym y.all,
+        x.all ∙ ap (text_facts ignored b bytes b.past) spans ∙ sym y.all,
         x.behind
             ∙ ap (after_spans ignored b.counts) spans ∙ sym y.behind,
       )

@@ -21,27 +21,28 @@ use Rattle.pmb_transaction.specs.Capture.{IsPacket, MayFollow, Viable}
 use Rattle.pmb_transaction.specs.Packet.{Packet}
 use Rattle.pmb_transaction.specs.Reading.{IsUnderWay, to_the_end}
 use Rattle.pmb_transaction.specs.Transaction.{TransactionData}
+use Rattle.pmb_unknown_start.specs.Past.{PastData, Said}
 use Rattle.pmb_json_objects.specs.Counts.{CountsData}
 use Rattle.pmb_facts.specs.Fact.{FactData}
 use Rattle.pmb_facts.specs.Packets.{packet_facts}
 use Rattle.pmb_fact_stream.specs.Others.{is_told, is_untold, other_address, span_events}
 use Rattle.pmb_fact_stream.specs.Spans.{IsNoneOutside, after_open, after_spans, open_facts, other_or, refused_span}
-use Rattle.pmb_fact_stream.specs.Spans.{event_place, event_time, span_facts, transactions_in}
+use Rattle.pmb_fact_stream.specs.Spans.{event_place, event_time, past_in, span_facts}
 use Rattle.pmb_fact_stream.specs.Before.{Before}
 use Rattle.pmb_telling.specs.Text.{text_facts}
-use Rattle.pmb_telling.proofs.Facts.{facts_append, transactions_moved}
+use Rattle.pmb_telling.proofs.Facts.{facts_append, past_moved}
 
 -- ---- what is out where bytes end
 
 -- what the law `others_are_told` says
 pub record OthersAreTold : Type 0 where
   pub facts : (ignored : Option (List ℕ)) (place : ℕ → Place) (times : ℕ → Option (List ℕ))
-      (before : List TransactionData) (m : ℕ) (reached : Reached) (end : Option Refusal) → IsNoneOutside reached end
+      (before : List PastData) (m : ℕ) (reached : Reached) (end : Option Refusal) → IsNoneOutside reached end
       → span_facts ignored place times before
       (moved_spans m (filter (is_told ignored) (end_spans reached.standing end)))
       ≡ open_facts ignored place times m reached.standing
   pub rest : (ignored : Option (List ℕ)) (place : ℕ → Place) (times : ℕ → Option (List ℕ))
-      (before : List TransactionData) (m : ℕ) (reached : Reached) (end : Option Refusal) → IsNoneOutside reached end
+      (before : List PastData) (m : ℕ) (reached : Reached) (end : Option Refusal) → IsNoneOutside reached end
       → open_facts ignored place times m reached.standing
       ++ span_facts ignored place times before
       (moved_spans m (filter (is_untold ignored) (end_spans reached.standing end)))
@@ -56,10 +57,10 @@ pub record OthersAreTold : Type 0 where
 -- reached are all told.
 pub record TellsOpen (ignored : Option (List ℕ)) (reached : Reached)
     (last : List Span) : Type 0 where
-  pub facts : (place : ℕ → Place) (times : ℕ → Option (List ℕ)) (before : List TransactionData) (m : ℕ)
+  pub facts : (place : ℕ → Place) (times : ℕ → Option (List ℕ)) (before : List PastData) (m : ℕ)
       → span_facts ignored place times before (moved_spans m (filter (is_told ignored) last))
       ≡ open_facts ignored place times m reached.standing
-  pub rest : (place : ℕ → Place) (times : ℕ → Option (List ℕ)) (before : List TransactionData) (m : ℕ)
+  pub rest : (place : ℕ → Place) (times : ℕ → Option (List ℕ)) (before : List PastData) (m : ℕ)
       → open_facts ignored place times m reached.standing
       ++ span_facts ignored place times before (moved_spans m (filter (is_untold ignored) last))
       ≡ span_facts ignored place times before (moved_spans m last)
@@ -86,26 +87,26 @@ module _ (ignored : Option (List ℕ)) (b : Before) (reached : Reached) (text : 
 
   -- those of the spans reached, and of the others
   pub facts_behind : (others : List Span)
-      → text_facts ignored b text b.ts (moved_spans b.n (reached.spans ++ others))
-      ≡ text_facts ignored b text b.ts (moved_spans b.n reached.spans)
-      ++ text_facts ignored b text (b.ts ++ transactions_in reached.spans) (moved_spans b.n others)
+      → text_facts ignored b text b.past (moved_spans b.n (reached.spans ++ others))
+      ≡ text_facts ignored b text b.past (moved_spans b.n reached.spans)
+      ++ text_facts ignored b text (b.past ++ past_in reached.spans) (moved_spans b.n others)
   facts_behind others =
-      ap (text_facts ignored b text b.ts) (map-append (moved_span b.n) reached.spans others)
-      ∙ (facts_append ignored (event_place b.read b.n text) (event_time b.n text) b.ts
+      ap (text_facts ignored b text b.past) (map-append (moved_span b.n) reached.spans others)
+      ∙ (facts_append ignored (event_place b.read b.n text) (event_time b.n text) b.past
       (moved_spans b.n reached.spans) (moved_spans b.n others)
-      ∙ ap (λ (ts : List TransactionData). text_facts ignored b text b.ts (moved_spans b.n reached.spans)
-      ++ text_facts ignored b text (b.ts ++ ts) (moved_spans b.n others))
-      (transactions_moved b.n reached.spans))
+      ∙ ap (λ (past : List PastData). text_facts ignored b text b.past (moved_spans b.n reached.spans)
+      ++ text_facts ignored b text (b.past ++ past) (moved_spans b.n others))
+      (past_moved b.n reached.spans))
 
   -- those that are out are those that are told
   pub facts_told : (last : List Span) → TellsOpen ignored reached last
-      → text_facts ignored b text b.ts (moved_spans b.n reached.spans) ++ facts_out
-      ≡ text_facts ignored b text b.ts
+      → text_facts ignored b text b.past (moved_spans b.n reached.spans) ++ facts_out
+      ≡ text_facts ignored b text b.past
       (moved_spans b.n (reached.spans ++ filter (is_told ignored) last))
   facts_told last tells =
       sym (facts_behind (filter (is_told ignored) last)
-      ∙ ap (λ (os : List FactData). text_facts ignored b text b.ts (moved_spans b.n reached.spans) ++ os)
-      (tells.facts (event_place b.read b.n text) (event_time b.n text) (b.ts ++ transactions_in reached.spans) b.n))
+      ∙ ap (λ (os : List FactData). text_facts ignored b text b.past (moved_spans b.n reached.spans) ++ os)
+      (tells.facts (event_place b.read b.n text) (event_time b.n text) (b.past ++ past_in reached.spans) b.n))
 
 -- ---- those of any end
 
@@ -255,7 +256,7 @@ module _ (profile : List DeviceParts) (front : List Event) (under_way : IsUnderW
 
 -- The first fact of the spans of such events is the one that is out.
 module _ (ignored : Option (List ℕ)) (under : List DeviceParts) (place : ℕ → Place) (times : ℕ → Option (List ℕ))
-    (before : List TransactionData) (m n : ℕ) (front : List Event) (under_way : IsUnderWay under front) where
+    (before : List PastData) (m n : ℕ) (front : List Event) (under_way : IsUnderWay under front) where
   -- the facts of an other with this address, in place of some
   abbrev other_in : ℕ → Option ℕ → List FactData → List FactData
   other_in k addr facts = other_or place times (m + k) addr facts
@@ -282,7 +283,7 @@ module _ (ignored : Option (List ℕ)) (under : List DeviceParts) (place : ℕ �
       let none : None ≡ Some addr = sym (ap (other_address ignored) (no_front front more reads)) ∙ is in
       absurd (cc none)
   left_of more (ReadSpan k events t ∷ others) (Some addr) reads is =
-      let rest = span_facts ignored place times (before ++ t ∷ []) (moved_spans m others) in (
+      let rest = span_facts ignored place times (before ++ Said t ∷ []) (moved_spans m others) in (
         rest,
         is_first k addr (other_address ignored events)
             (packet_facts before place (times (m + k)) (m + k) events t) rest reads.0
@@ -311,7 +312,7 @@ pub record LeadsToMore (ignored : Option (List ℕ)) (reached : Reached)
     (rest : List Event) : Type 0 where
   pub others : List Span
   pub spans : Spans reached.profile (reached.events ++ rest) (reached.spans ++ others)
-  pub left : (place : ℕ → Place) (times : ℕ → Option (List ℕ)) (before : List TransactionData) (m : ℕ)
+  pub left : (place : ℕ → Place) (times : ℕ → Option (List ℕ)) (before : List PastData) (m : ℕ)
       → (left : List FactData) × (span_facts ignored place times before (moved_spans m others)
       ≡ open_facts ignored place times m reached.standing ++ left)
 
@@ -319,7 +320,7 @@ module _ (ignored : Option (List ℕ)) (reached : Reached) (rest : List Event)
     (leads : LeadsOn reached) (some : HaveSpans reached.profile)
     (under_way : (n : ℕ) (events : List Event) → reached.standing ≡ Open n events
     → IsUnderWay reached.profile events) where
-  abbrev HasLeftAt : Standing → List Span → (ℕ → Place) → (ℕ → Option (List ℕ)) → List TransactionData → ℕ → Type 0
+  abbrev HasLeftAt : Standing → List Span → (ℕ → Place) → (ℕ → Option (List ℕ)) → List PastData → ℕ → Type 0
   HasLeftAt standing others place times before m = (left : List FactData)
       × (span_facts ignored place times before (moved_spans m others)
       ≡ open_facts ignored place times m standing ++ left)

@@ -36,7 +36,7 @@ use Rattle.pmb_fact_stream.specs.declared.stream.Stream.{Stream}
 use Rattle.pmb_fact_stream.specs.Before.{Before, at_first, with_reached}
 use Rattle.pmb_fact_stream.specs.Choice.{ChoiceData}
 use Rattle.pmb_fact_stream.specs.Others.{is_told, is_untold}
-use Rattle.pmb_fact_stream.specs.Spans.{after_spans, event_place, event_time, transactions_in}
+use Rattle.pmb_fact_stream.specs.Spans.{after_spans, event_place, event_time, past_in}
 use Rattle.pmb_fact_stream.specs.Keeping.{IsTold, KeepsOn, setting_under}
 use Rattle.pmb_fact_stream.specs.Stream.{HasToldOf, HoldsOf, IsSame, KeepsFacts, StreamAt, StreamBegins, StreamKnows}
 use Rattle.pmb_fact_stream.specs.Stream.{StreamStands, kept_by}
@@ -226,7 +226,7 @@ module _ {K : Type 0} (Keeps : K → Setting → List FactData → Type 0) (choi
   -- the facts that were told where nothing follows
   abbrev pub told_so_far : Reached → List FactData
   told_so_far there =
-      text_facts choice.ignored b (there.text ++ []) b.ts (moved_spans b.n there.spans)
+      text_facts choice.ignored b (there.text ++ []) b.past (moved_spans b.n there.spans)
       ++ facts_out choice.ignored b there (there.text ++ [])
 
   -- Bytes that spell events: after the lines that were told come those that are left of the other
@@ -235,7 +235,7 @@ module _ {K : Type 0} (Keeps : K → Setting → List FactData → Type 0) (choi
       (own said : List ℕ) → there.text ≡ used
       → own ≡ fact_lines choice profile (told_so_far there) → Spells used events
       → SpansFrom profile b.n events (moved_spans b.n (there.spans ++ others))
-      → text_facts choice.ignored b there.text (b.ts ++ transactions_in there.spans) (moved_spans b.n others)
+      → text_facts choice.ignored b there.text (b.past ++ past_in there.spans) (moved_spans b.n others)
       ≡ facts_out choice.ignored b there there.text ++ left
       → said ≡ fact_lines choice profile left
       ++ last_lines choice profile (after_spans choice.ignored b.counts (there.spans ++ others))
@@ -248,14 +248,14 @@ module _ {K : Type 0} (Keeps : K → Setting → List FactData → Type 0) (choi
       -- all spans, those told and the others, with their facts and counts
       let spans = moved_spans b.n (there.spans ++ others) in
       let counts = after_spans choice.ignored b.counts (there.spans ++ others) in
-      let facts = text_facts choice.ignored b there.text b.ts spans in
-      let first = text_facts choice.ignored b there.text b.ts (moved_spans b.n there.spans) in
+      let facts = text_facts choice.ignored b there.text b.past spans in
+      let first = text_facts choice.ignored b there.text b.past (moved_spans b.n there.spans) in
       let out = facts_out choice.ignored b there there.text in
       let last = last_lines choice profile counts in
       let lines = fact_lines choice profile in
       -- the lines that were told are those of the first spans, and of an other that is under way
       let so_far : told_so_far there ≡ first ++ out =
-      ap (λ (l : List ℕ). text_facts choice.ignored b l b.ts (moved_spans b.n there.spans)
+      ap (λ (l : List ℕ). text_facts choice.ignored b l b.past (moved_spans b.n there.spans)
       ++ facts_out choice.ignored b there l) (append-nil there.text) in
       let own_is : own ≡ lines (first ++ out) = told ∙ ap lines so_far in
       -- with what is left they are all facts
@@ -269,7 +269,7 @@ module _ {K : Type 0} (Keeps : K → Setting → List FactData → Type 0) (choi
           spans = spans;
           spells = spells;
           reads = reads;
-          all = ap (λ (l : List ℕ). text_facts choice.ignored b l b.ts spans) text_is;
+          all = ap (λ (l : List ℕ). text_facts choice.ignored b l b.past spans) text_is;
           behind =
               sym (counts_moved choice.ignored b.counts b.n (there.spans ++ others));
         },
@@ -287,7 +287,7 @@ module _ {K : Type 0} (Keeps : K → Setting → List FactData → Type 0) (choi
       → (ends : EndsWords (StreamStands Keeps (kept_by words.begun keeper) new) words.reached after (put ++ more))
       → TellsOpen choice.ignored ends.there last → EndsWith ends.there last
       → said ≡ fact_lines choice profile
-      (text_facts choice.ignored b ends.there.text (b.ts ++ transactions_in ends.there.spans)
+      (text_facts choice.ignored b ends.there.text (b.past ++ past_in ends.there.spans)
       (moved_spans b.n (filter (is_untold choice.ignored) last)))
       ++ last_lines choice profile (after_spans choice.ignored b.counts (ends.there.spans ++ last))
       → (facts : List FactData) × ReadsToEnd choice.ignored profile b used facts
@@ -295,19 +295,19 @@ module _ {K : Type 0} (Keeps : K → Setting → List FactData → Type 0) (choi
       × (put ++ (more ++ said) ≡ fact_lines choice profile facts
       ++ last_lines choice profile (after_spans choice.ignored b.counts (ends.there.spans ++ last)))
       × (told_so_far ends.there
-      ++ text_facts choice.ignored b ends.there.text (b.ts ++ transactions_in ends.there.spans)
+      ++ text_facts choice.ignored b ends.there.text (b.past ++ past_in ends.there.spans)
       (moved_spans b.n (filter (is_untold choice.ignored) last)) ≡ facts)
   reads_end more said after new last move ends tells end said_are =
       let there = ends.there in
       let told = ends.visited.told b words.begins in
-      let left = text_facts choice.ignored b there.text (b.ts ++ transactions_in there.spans)
+      let left = text_facts choice.ignored b there.text (b.past ++ past_in there.spans)
       (moved_spans b.n (filter (is_untold choice.ignored) last)) in
       let reads = reads_on there there.events last left (put ++ more) said (ends.same_text ∙ words.is_text)
       (told_by there (put ++ more) new told []).lines
       (subst (λ (l : List ℕ). Spells l there.events) words.is_text ends.spells)
       (met_reads choice profile b there last move (under there (put ++ more) new told) end)
       (sym (tells.rest (event_place b.read b.n there.text) (event_time b.n there.text)
-      (b.ts ++ transactions_in there.spans) b.n)) said_are in
+      (b.past ++ past_in there.spans) b.n)) said_are in
       (reads.0, reads.1, sym (append_assoc put more said) ∙ reads.2, reads.3)
 
   -- they end in a word that is no token
@@ -354,7 +354,7 @@ module _ {K : Type 0} (Keeps : K → Setting → List FactData → Type 0) (choi
       let there = words.reached in
       let told = words.told.told b words.begins in
       let spans = moved_spans b.n (there.spans ++ last) in (
-        text_facts choice.ignored b used b.ts (filter (is_told choice.ignored) spans),
+        text_facts choice.ignored b used b.past (filter (is_told choice.ignored) spans),
         record {
           events = there.events;
           spans = spans;
@@ -365,10 +365,10 @@ module _ {K : Type 0} (Keeps : K → Setting → List FactData → Type 0) (choi
         },
         (told_by there put now told []).lines
             ∙ (ap (fact_lines choice profile) (facts_told choice.ignored b there (there.text ++ []) last tells)
-            ∙ (ap (λ (l : List ℕ). fact_lines choice profile (text_facts choice.ignored b l b.ts
+            ∙ (ap (λ (l : List ℕ). fact_lines choice profile (text_facts choice.ignored b l b.past
             (moved_spans b.n (there.spans ++ filter (is_told choice.ignored) last))))
             (append-nil there.text ∙ words.is_text)
-            ∙ ap (λ (l : List Span). fact_lines choice profile (text_facts choice.ignored b used b.ts l))
+            ∙ ap (λ (l : List Span). fact_lines choice profile (text_facts choice.ignored b used b.past l))
             (met_whole choice profile b.n there last tells))),
       )
 

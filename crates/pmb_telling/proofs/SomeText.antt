@@ -57,7 +57,7 @@ module _ (choice : ChoiceData) (profile : List DeviceParts) (some_spans : (n : â
   all_read after b bytes events spells =
       let read = some_spans b.n events in (
         [],
-        text_facts choice.ignored b bytes b.ts read.0,
+        text_facts choice.ignored b bytes b.past read.0,
         after_spans choice.ignored b.counts read.0,
         record { events = events; spans = read.0; spells = spells; reads = read.1; all = refl; behind = refl },
       )

@@ -39,7 +39,7 @@ use Rattle.pmb_fact_stream.specs.declared.stream.Stream.{Stream}
 use Rattle.pmb_scan.specs.declared.scan.Scan.{Scan}
 use Rattle.pmb_scan.specs.Reached.{at_start}
 use Rattle.pmb_scan.specs.Scan.{ScanStandsAt}
-use Rattle.pmb_fact_stream.specs.Before.{Before, with_bytes}
+use Rattle.pmb_fact_stream.specs.Before.{Before, drop_line, with_bytes}
 use Rattle.pmb_fact_stream.specs.Choice.{ChoiceData}
 use Rattle.pmb_fact_stream.specs.Keeping.{IsTold, KeepsOn}
 use Rattle.pmb_fact_stream.specs.Stream.{IsSame, KeepsFacts, StreamBegins, StreamKnows, kept_by, stream_choice}
@@ -483,7 +483,7 @@ pub begins_anew : {K : Type 0} (Keeps : K → Setting → List FactData → Type
     → ((text : List ℕ) → EndsBetween (text ++ 10 ∷ [])) → stream_choice new ≡ choice → stream_profile new ≡ profile
     → ScanStandsAt scan (at_start profile)
     → ((b : Before) → StreamKnows b old.stream → StreamKnows (with_bytes b (take (count + 1) at_hand)) mid)
-    → ((b : Before) → StreamKnows b mid → EndsBetween b.read → StreamBegins b new)
+    → ((b : Before) → StreamKnows b mid → EndsBetween b.read → StreamBegins (drop_line b) new)
     → Behind Keeps choice profile after first (InBadLine Keeps choice profile at_hand old) given text
     → Behind Keeps choice profile after first (InWords Keeps choice profile scan (kept_by new old.keeper))
     (given ++ take (count + 1) at_hand) text
@@ -512,10 +512,13 @@ begins_anew Keeps choice profile after first given text at_hand count old mid ne
     ∙ ap (λ (l : List ℕ). l ++ 10 ∷ []) (append_assoc (b.read ++ bad.front) bad.line line)) in
     let between : EndsBetween (behind_line choice.ignored b longer).read =
     lines ((b.read ++ bad.front) ++ (bad.line ++ line)) in
-    -- the stream knows of them, and is cleared there
-    let knows : StreamKnows (behind_line choice.ignored b longer) mid =
-    knows_as _ (behind_line choice.ignored b longer).read _ _ _ _ _ mid read_is refl refl
-    (takes (behind_fact choice.ignored b bad) has.knows) in record {
+    -- the stream knows of them, is cleared there, and knows that the line was dropped
+    let there : Before = record (behind_fact choice.ignored b longer) {
+      read = (behind_line choice.ignored b longer).read;
+    } in
+    let knows : StreamKnows there mid =
+    knows_as _ there.read _ _ _ _ _ mid read_is refl refl (takes (behind_fact choice.ignored b bad) has.knows) in
+    record {
       -- reading begins anew with nothing used and nothing written
       b = behind_line choice.ignored b longer;
       bads = behind.bads ++ longer ∷ [];
@@ -541,5 +544,5 @@ begins_anew Keeps choice profile after first given text at_hand count old mid ne
           (has.told [] line (10 ∷ tail) split refl).kept;
       holds = words_begin Keeps old.keeper choice profile scan new (behind_line choice.ignored b longer) same_choice
           same_profile
-          (begin (behind_line choice.ignored b longer) knows between) scans;
+          (begin there knows between) scans;
     }

@@ -39,7 +39,7 @@ module _ (ignored : Option (List ℕ)) where
       pub begins : BeginsText bytes
       pub spells : EndedWordsSpell bytes events
       pub reads : SpansFrom profile b.n events spans
-      pub all : facts ≡ text_facts ignored b bytes b.ts (filter (is_told ignored) spans)
+      pub all : facts ≡ text_facts ignored b bytes b.past (filter (is_told ignored) spans)
 
     -- The facts so far of bytes from there on, with these bad lines. Reading continues after bad
     -- lines, if that is wanted.

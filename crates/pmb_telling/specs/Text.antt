@@ -15,14 +15,13 @@ use Rattle.pmb_json_objects.specs.Counts.{CountsData, after_bad_token}
 use Rattle.pmb_json_objects.specs.Head.{Head}
 use Rattle.pmb_places.specs.Text.{place_behind}
 use Rattle.pmb_spans.specs.Spans.{Span, SpansFrom}
-use Rattle.pmb_fact_stream.specs.Before.{Before, at_first}
+use Rattle.pmb_fact_stream.specs.Before.{Before, at_first, drop_line}
 use Rattle.pmb_fact_stream.specs.Choice.{ChoiceData}
 use Rattle.pmb_fact_stream.specs.Lines.{fact_lines, last_lines}
 use Rattle.pmb_fact_stream.specs.Others.{is_told}
-use Rattle.pmb_fact_stream.specs.Spans.{after_spans, bad_token_fact, event_place, event_time, span_facts}
-use Rattle.pmb_fact_stream.specs.Spans.{transactions_in}
+use Rattle.pmb_fact_stream.specs.Spans.{after_spans, bad_token_fact, event_place, event_time, past_in, span_facts}
 use Rattle.pmb_fact_stream.specs.UnderWay.{open_time}
-use Rattle.pmb_transaction.specs.Transaction.{TransactionData}
+use Rattle.pmb_unknown_start.specs.Past.{PastData}
 
 -- ---- where reading begins anew
 
@@ -39,18 +38,18 @@ abbrev pub at_word : Option (List ℕ) → Before → BadLine → Before
 at_word ignored b bad = record {
   read = b.read ++ bad.front;
   n = b.n + length bad.events;
-  ts = b.ts ++ transactions_in bad.spans;
+  past = b.past ++ past_in bad.spans;
   counts = after_spans ignored b.counts bad.spans;
 }
 
--- after that line and its LF; what was dropped was no event
+-- after that line and its LF; what was dropped was no event, and nobody knows what it said
 abbrev pub behind_line : Option (List ℕ) → Before → BadLine → Before
-behind_line ignored b bad = record {
+behind_line ignored b bad = drop_line (record {
   read = b.read ++ bad.front ++ bad.line ++ character "\n" ∷ [];
   n = b.n + length bad.events;
-  ts = b.ts ++ transactions_in bad.spans;
+  past = b.past ++ past_in bad.spans;
   counts = after_bad_token (after_spans ignored b.counts bad.spans);
-}
+})
 
 -- nothing, or LF and what stands after it
 abbrev pub IsBehindLine : List ℕ → Type 0
@@ -78,14 +77,14 @@ word_fact b bad = bad_token_fact (word_head b bad) (front_word bad.line)
 -- ---- facts
 
 module _ (ignored : Option (List ℕ)) where
-  -- Those of spans of bytes that are read from there on, after some transactions: each with the
+  -- Those of spans of bytes that are read from there on, after what went before: each with the
   -- place and the time that the bytes tell.
-  abbrev pub text_facts : Before → List ℕ → List TransactionData → List Span → List FactData
+  abbrev pub text_facts : Before → List ℕ → List PastData → List Span → List FactData
   text_facts b bytes = span_facts ignored (event_place b.read b.n bytes) (event_time b.n bytes)
 
   -- the facts of what stands before the word, and that of the word
   abbrev pub front_facts : Before → BadLine → List FactData
-  front_facts b bad = text_facts b (bad.front ++ bad.line) b.ts bad.spans
+  front_facts b bad = text_facts b (bad.front ++ bad.line) b.past bad.spans
 
   abbrev pub bad_line_facts : Before → BadLine → List FactData
   bad_line_facts b bad = front_facts b bad ++ word_fact b bad ∷ []
@@ -97,7 +96,7 @@ module _ (ignored : Option (List ℕ)) where
       pub spans : List Span
       pub spells : Spells bytes events
       pub reads : SpansFrom profile b.n events spans
-      pub all : facts ≡ text_facts b bytes b.ts spans
+      pub all : facts ≡ text_facts b bytes b.past spans
       pub behind : counts ≡ after_spans ignored b.counts spans
 
     -- Bytes up to the first word that is no token, and the rest of its line, read from there on. A

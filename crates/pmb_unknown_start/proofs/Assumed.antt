@@ -13,19 +13,20 @@ use Rattle.pmb_command.specs.Bus.{IsBus, IsDevice}
 use Rattle.pmb_command.specs.Parts.{DeviceParts, device_with}
 use Rattle.pmb_transaction.specs.Transaction.{TransactionData, Write, Read, Call, Refused, Alert, NoAlert}
 use Rattle.pmb_transaction.proofs.Known.{device_is}
-use Rattle.pmb_note.specs.Paging.{RegisterTold, all_pages, has_paged_mode, page_code, told_by_part, vout_mode_code}
-use Rattle.pmb_note.specs.Paging.{mode as mode_of_whole}
+use Rattle.pmb_note.specs.Paging.{RegisterTold, all_pages, first_paging, has_paged_mode, page_code, told_by_part}
+use Rattle.pmb_note.specs.Paging.{vout_mode_code, mode as mode_of_whole}
 use Rattle.pmb_unknown_start.specs.declared.mode.KnownMode.{KnownMode}
 use Rattle.pmb_unknown_start.specs.declared.mode.KnownMode.TheVariants.{Known, Unknown, NoPage}
 use Rattle.pmb_unknown_start.specs.declared.start.Start.{Start}
 use Rattle.pmb_unknown_start.specs.declared.start.Start.TheVariants.{AllKnown, Late, LateFixedMode}
+use Rattle.pmb_unknown_start.specs.Past.{PastData, Said, Dropped, transactions_of}
 use Rattle.pmb_unknown_start.specs.Restores.{untells}
-use Rattle.pmb_unknown_start.specs.Known.{KnownPaging, any_page, first_known, first_told, forget_modes, is_assumed}
-use Rattle.pmb_unknown_start.specs.Known.{is_unknown, kept_under, known, known_mode, learn_bytes, learn_mode}
-use Rattle.pmb_unknown_start.specs.Known.{learn_told, learn_transaction, learn_value, learn_written, may_be, mode}
-use Rattle.pmb_unknown_start.specs.Known.{mode_of, mode_on_page, mode_under, modes_after, modes_somewhere, shared_by}
-use Rattle.pmb_unknown_start.specs.Known.{shared_mode, told_by_read}
-use Rattle.pmb_unknown_start.specs.Certain.{AgreesWith, known_as}
+use Rattle.pmb_unknown_start.specs.Known.{KnownPaging, any_page, first_known, first_told, forget_modes, forget_paging}
+use Rattle.pmb_unknown_start.specs.Known.{is_assumed, is_unknown, kept_under, known, known_mode, learn_bytes}
+use Rattle.pmb_unknown_start.specs.Known.{learn_mode, learn_past, learn_told, learn_transaction, learn_value}
+use Rattle.pmb_unknown_start.specs.Known.{learn_written, may_be, mode, mode_of, mode_on_page, mode_under}
+use Rattle.pmb_unknown_start.specs.Known.{modes_after, modes_somewhere, shared_by, shared_mode, told_by_read}
+use Rattle.pmb_unknown_start.specs.Certain.{AgreesWith, DropsOnOwnPage, known_as}
 use Rattle.pmb_unknown_start.proofs.Cutting.{mode_at}
 use Rattle.pmb_unknown_start.proofs.Full.{mode_is_known}
 
@@ -106,7 +107,7 @@ within_after : (page : Option ℕ) (ms ns : List (Option ℕ)) (mode : ℕ) → 
 within_after None ms ns mode within = within_somewhere ms ns mode within
 within_after (Some page) ms ns mode within = within_page (nat_eq page all_pages) ms ns page mode within
 
--- ---- after transactions
+-- ---- after what went before
 
 -- what is known late, and where VOUT_MODE is fixed: PAGE is known in both or in none
 record Under (k l : KnownPaging) : Type 0 where
@@ -149,13 +150,13 @@ module _ (device : DeviceParts) where
   one_told t k l is = either (nat_eq t.addr device.address) (learn_bytes device t.code t.bytes k)
       (learn_bytes device t.code t.bytes l) k l (bytes_told t.code t.bytes k l is) is
 
+  none_within : (k l : KnownPaging) → Under k l → Within (replicate (length k.modes) None) l.modes
+  none_within k l is = within_none (length k.modes) l.modes (sym (same_length k.modes l.modes is.modes))
+
   -- what is untold is forgotten late
   forgotten : (b : Bool) (k l : KnownPaging) → Under k l
       → Under (cond b (forget_modes Late k) k) (cond b (forget_modes LateFixedMode l) l)
-  forgotten true k l is = record {
-    page = is.page;
-    modes = within_none (length k.modes) l.modes (sym (same_length k.modes l.modes is.modes));
-  }
+  forgotten true k l is = record { page = is.page; modes = none_within k l is }
   forgotten false k l is = is
 
   all_written : (ts : List RegisterTold) (k l : KnownPaging) → Under k l
@@ -173,14 +174,16 @@ module _ (device : DeviceParts) where
   by_transaction (Alert t) k l is = is
   by_transaction NoAlert k l is = is
 
-  by_transactions : (ts : List TransactionData) (k l : KnownPaging) → Under k l
-      → Under (fold (learn_transaction Late device) k ts) (fold (learn_transaction LateFixedMode device) l ts)
-  by_transactions [] k l is = is
-  by_transactions (t ∷ ts) k l is = by_transactions ts (learn_transaction Late device k t)
+  by_past : (past : List PastData) (k l : KnownPaging) → Under k l
+      → Under (fold (learn_past Late device) k past) (fold (learn_past LateFixedMode device) l past)
+  by_past [] k l is = is
+  by_past (Said t ∷ past) k l is = by_past past (learn_transaction Late device k t)
       (learn_transaction LateFixedMode device l t) (by_transaction t k l is)
+  by_past (Dropped ∷ past) k l is = by_past past (forget_paging Late k) (forget_paging LateFixedMode l)
+      (record { page = refl; modes = none_within k l is })
 
-  under : IsDevice device → (ts : List TransactionData) → Under (known Late device ts) (known LateFixedMode device ts)
-  under is ts = by_transactions ts (first_known Late device) (first_known LateFixedMode device) (record {
+  under : IsDevice device → (past : List PastData) → Under (known Late device past) (known LateFixedMode device past)
+  under is past = by_past past (first_known Late device) (first_known LateFixedMode device) (record {
     page = refl;
     modes = within_none device.pages (map Some device.modes) (length-map device.modes Some ∙ is.mode_of_each);
   })
@@ -295,12 +298,13 @@ read_of k l is = subst (λ (page : Option ℕ). Stays (known_mode k) (mode_under
 
 -- ---- .. of the device with an address
 
-fixed_found : (ts : List TransactionData) (found : Option DeviceParts)
+fixed_found : (past : List PastData) (found : Option DeviceParts)
     → ((device : DeviceParts) → found ≡ Some device → IsDevice device)
-    → Stays (mode_of (λ device. known Late device ts) found) (mode_of (λ device. known LateFixedMode device ts) found)
-fixed_found ts None accepted sure = refl
-fixed_found ts (Some device) accepted sure =
-    read_of (known Late device ts) (known LateFixedMode device ts) (under device (accepted device refl) ts) sure
+    → Stays (mode_of (λ device. known Late device past) found)
+    (mode_of (λ device. known LateFixedMode device past) found)
+fixed_found past None accepted sure = refl
+fixed_found past (Some device) accepted sure =
+    read_of (known Late device past) (known LateFixedMode device past) (under device (accepted device refl) past) sure
 
 -- where all is known from the start, a mode that isn't unknown late is that one
 agreed : (k : KnownMode) (o : Option ℕ) → AgreesWith k o → Stays k (known_as o)
@@ -308,13 +312,15 @@ agreed (Known mode) o is sure = ap known_as is
 agreed Unknown o is sure = absurd (false≢true (sym sure))
 agreed NoPage o is sure = ap known_as is
 
-pub not_assumed : (profile : List DeviceParts) (start : Start) (ts : List TransactionData) (addr : ℕ) → IsBus profile
-    → is_assumed profile ts addr ≡ false → mode start profile ts addr ≡ mode Late profile ts addr
-not_assumed profile AllKnown ts addr bus sure =
-    mode_is_known profile ts addr
-    ∙ agreed (mode Late profile ts addr) (mode_of_whole profile ts addr)
-    (mode_at profile Late [] ts addr (λ device found. (device_is profile addr device bus found).0)
-    (λ device found. tt)) sure
-not_assumed profile Late ts addr bus sure = refl
-not_assumed profile LateFixedMode ts addr bus sure = fixed_found ts (device_with addr profile)
+pub not_assumed : (profile : List DeviceParts) (start : Start) (past : List PastData) (addr : ℕ) → IsBus profile
+    → (start ≡ AllKnown → (device : DeviceParts) → device_with addr profile ≡ Some device
+    → DropsOnOwnPage device (first_paging device) past)
+    → is_assumed profile past addr ≡ false → mode start profile past addr ≡ mode Late profile past addr
+not_assumed profile AllKnown past addr bus drops sure =
+    mode_is_known profile past addr
+    ∙ agreed (mode Late profile past addr) (mode_of_whole profile (transactions_of past) addr)
+    (mode_at profile Late [] past addr (λ device found. (device_is profile addr device bus found).0)
+    (λ device found. tt) (drops refl)) sure
+not_assumed profile Late past addr bus drops sure = refl
+not_assumed profile LateFixedMode past addr bus drops sure = fixed_found past (device_with addr profile)
     (λ device found. (device_is profile addr device bus found).0) sure

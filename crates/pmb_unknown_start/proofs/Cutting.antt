@@ -1,7 +1,8 @@
 -- Where a capture may be cut: PAGE and VOUT_MODE after the first part are such as the rest may
 -- begin with, so what is known in the rest is what the whole has. For the law
 -- `pieces_say_what_the_whole_says`. What is told before the cut keeps PAGE among the device's
--- pages, register by register, and as many VOUT_MODEs as there are pages.
+-- pages, register by register, and as many VOUT_MODEs as there are pages. The whole goes by what was
+-- said alone (Drops).
 use Rattle.std.proofs.Common.{◌≡◌, ◌≢◌, ℕ, cond, Bool, true, false, Option, Some, None, List, [], ◌∷◌, ◌++◌, fold}
 use Rattle.std.proofs.Common.{length, nat_eq, inl, refl, sym, ap, ◌∙◌, subst, arith}
 use Rattle.std.specs.List.{AllByRecursion, flat_map}
@@ -17,11 +18,14 @@ use Rattle.pmb_note.specs.Paging.{first_paging, page_code, paging, told, vout_mo
 use Rattle.pmb_note.specs.Paging.{mode as mode_of_whole, page as page_of_whole}
 use Rattle.pmb_unknown_start.specs.declared.start.Start.{Start}
 use Rattle.pmb_unknown_start.specs.declared.start.Start.TheVariants.{AllKnown, Late, LateFixedMode}
+use Rattle.pmb_unknown_start.specs.Past.{PastData, transactions_of}
 use Rattle.pmb_unknown_start.specs.Known.{first_known, first_page, known, known_mode, mode, mode_of, page}
-use Rattle.pmb_unknown_start.specs.Certain.{AgreesWith, CanBeCutAfter, CanBegin, IsOwnPage, IsOwnPageTold, paging_from}
+use Rattle.pmb_unknown_start.specs.Certain.{AgreesWith, CanBeCutAfter, CanBegin, DropsOnOwnPage, IsOwnPage}
+use Rattle.pmb_unknown_start.specs.Certain.{IsOwnPageTold}
 use Rattle.pmb_unknown_start.proofs.Agreeing.{IsThat}
-use Rattle.pmb_unknown_start.proofs.Telling.{begins, mode_is, mode_set, page_is, page_known, same_count, set_where}
-use Rattle.pmb_unknown_start.proofs.Telling.{sets_all, stays, with_modes}
+use Rattle.pmb_unknown_start.proofs.Drops.{said_append}
+use Rattle.pmb_unknown_start.proofs.Telling.{begins, mode_is, mode_set, page_is, page_known, paging_from, same_count}
+use Rattle.pmb_unknown_start.proofs.Telling.{set_where, sets_all, stays, with_modes}
 
 -- what is told by transactions, one after the other
 fold_told : (device : DeviceParts) (ts : List TransactionData) (p : PagingData)
@@ -85,37 +89,48 @@ module _ (device : DeviceParts) (ts : List RegisterTold) (p : PagingData) where
 
 -- ---- the rest of a capture
 
-module _ (device : DeviceParts) (is : IsDevice device) (before : List TransactionData) where
+-- the whole is the piece, from what was before
+whole : (device : DeviceParts) (before piece : List PastData)
+    → paging_from device (paging device (transactions_of before)) (transactions_of piece)
+    ≡ paging device (transactions_of (before ++ piece))
+whole device before piece =
+    sym (ap (paging device) (said_append before piece)
+    ∙ fold-append (after_transaction device) (first_paging device) (transactions_of before) (transactions_of piece))
+
+module _ (device : DeviceParts) (is : IsDevice device) (before : List PastData) where
+  abbrev here : PagingData
+  here = paging device (transactions_of before)
+
   first_page_is : IsOwnPage device 0
   first_page_is = inl (omega (arith, is.some_page))
 
-  page_here : AllByRecursion (IsOwnPageTold device) (flat_map told before)
-      → IsOwnPage device (paging device before).page
+  page_here : AllByRecursion (IsOwnPageTold device) (flat_map told (transactions_of before))
+      → IsOwnPage device here.page
   page_here so =
-      subst (λ (q : PagingData). IsOwnPage device q.page) (fold_told device before (first_paging device))
-      (own_page device (flat_map told before) (first_paging device) so first_page_is)
+      subst (λ (q : PagingData). IsOwnPage device q.page)
+      (fold_told device (transactions_of before) (first_paging device))
+      (own_page device (flat_map told (transactions_of before)) (first_paging device) so first_page_is)
 
-  pub can_begin : (start : Start) → CanBeCutAfter start device before → CanBegin start device (paging device before)
-  can_begin AllKnown so = ap (paging device) so
+  pub can_begin : (start : Start) → CanBeCutAfter start device before → CanBegin start device here
+  can_begin AllKnown so = ap (λ (past : List PastData). paging device (transactions_of past)) so
   can_begin Late so = (
     page_here so,
-    subst (λ (q : PagingData). length q.modes ≡ device.pages) (fold_told device before (first_paging device))
-        (own_count device (flat_map told before) (first_paging device) so is.mode_of_each),
+    subst (λ (q : PagingData). length q.modes ≡ device.pages)
+        (fold_told device (transactions_of before) (first_paging device))
+        (own_count device (flat_map told (transactions_of before)) (first_paging device) so is.mode_of_each),
   )
   can_begin LateFixedMode so = (page_here so.0, ap (λ (modes : List ℕ). length modes) so.1 ∙ is.mode_of_each, so.1)
 
-  -- the whole is the piece, from what was before
-  whole : (piece : List TransactionData) → paging_from device (paging device before) piece
-      ≡ paging device (before ++ piece)
-  whole piece = sym (fold-append (after_transaction device) (first_paging device) before piece)
-
-  pub mode_of_piece : (start : Start) (piece : List TransactionData) → CanBeCutAfter start device before
-      → AgreesWith (known_mode (known start device piece)) (selected_mode (paging device (before ++ piece)))
-  mode_of_piece start piece so =
-      subst (λ (q : PagingData). AgreesWith (known_mode (known start device piece)) (selected_mode q)) (whole piece)
-      (mode_is (known start device piece) (paging_from device (paging device before) piece)
-      (stays device start piece (first_known start device) (paging device before)
-      (begins device start (paging device before) (can_begin start so))))
+  pub mode_of_piece : (start : Start) (piece : List PastData) → CanBeCutAfter start device before
+      → DropsOnOwnPage device here piece
+      → AgreesWith (known_mode (known start device piece))
+      (selected_mode (paging device (transactions_of (before ++ piece))))
+  mode_of_piece start piece so drops =
+      subst (λ (q : PagingData). AgreesWith (known_mode (known start device piece)) (selected_mode q))
+      (whole device before piece)
+      (mode_is start device (known start device piece) (paging_from device here (transactions_of piece))
+      (stays device start piece (first_known start device) here drops
+      (begins device start here (can_begin start so))))
 
 -- late, PAGE is known only where the piece tells it
 unknown_first : (start : Start) (n : ℕ) → start ≢ AllKnown → IsThat (first_page start) n
@@ -123,42 +138,47 @@ unknown_first AllKnown n late = absurd (late refl)
 unknown_first Late n late = tt
 unknown_first LateFixedMode n late = tt
 
-pub page_of_piece : (device : DeviceParts) (before piece : List TransactionData) (start : Start) (n : ℕ)
+pub page_of_piece : (device : DeviceParts) (before piece : List PastData) (start : Start) (n : ℕ)
     → start ≢ AllKnown → (known start device piece).page ≡ Some n
-    → (paging device (before ++ piece)).page ≡ n
+    → (paging device (transactions_of (before ++ piece))).page ≡ n
 page_of_piece device before piece start n late is =
-    ap (λ (q : PagingData). q.page) (fold-append (after_transaction device) (first_paging device) before piece)
-    ∙ page_is (known start device piece).page (paging_from device (paging device before) piece).page n is
-    (page_known device start piece (first_known start device) (paging device before)
-    (unknown_first start (paging device before).page late))
+    let here : PagingData = paging device (transactions_of before) in
+    ap (λ (q : PagingData). q.page) (sym (whole device before piece))
+    ∙ page_is (known start device piece).page (paging_from device here (transactions_of piece)).page n is
+    (page_known device start piece (first_known start device) here (unknown_first start here.page late))
 
 -- ---- .. of the device with an address
 
-mode_found : (start : Start) (before piece : List TransactionData) (found : Option DeviceParts)
+mode_found : (start : Start) (before piece : List PastData) (found : Option DeviceParts)
     → ((device : DeviceParts) → found ≡ Some device → IsDevice device)
     → ((device : DeviceParts) → found ≡ Some device → CanBeCutAfter start device before)
+    → ((device : DeviceParts) → found ≡ Some device
+    → DropsOnOwnPage device (paging device (transactions_of before)) piece)
     → AgreesWith (mode_of (λ device. known start device piece) found)
-    (option_and_then (λ device. selected_mode (paging device (before ++ piece))) found)
-mode_found start before piece None accepted so = refl
-mode_found start before piece (Some device) accepted so =
+    (option_and_then (λ device. selected_mode (paging device (transactions_of (before ++ piece)))) found)
+mode_found start before piece None accepted so drops = refl
+mode_found start before piece (Some device) accepted so drops =
     mode_of_piece device (accepted device refl) before start piece
-    (so device refl)
+    (so device refl) (drops device refl)
 
-pub mode_at : (profile : List DeviceParts) (start : Start) (before piece : List TransactionData) (addr : ℕ)
+pub mode_at : (profile : List DeviceParts) (start : Start) (before piece : List PastData) (addr : ℕ)
     → ((device : DeviceParts) → device_with addr profile ≡ Some device → IsDevice device)
     → ((device : DeviceParts) → device_with addr profile ≡ Some device → CanBeCutAfter start device before)
-    → AgreesWith (mode start profile piece addr) (mode_of_whole profile (before ++ piece) addr)
-mode_at profile start before piece addr accepted so =
-    mode_found start before piece (device_with addr profile) accepted so
+    → ((device : DeviceParts) → device_with addr profile ≡ Some device
+    → DropsOnOwnPage device (paging device (transactions_of before)) piece)
+    → AgreesWith (mode start profile piece addr) (mode_of_whole profile (transactions_of (before ++ piece)) addr)
+mode_at profile start before piece addr accepted so drops =
+    mode_found start before piece (device_with addr profile) accepted so drops
 
-page_found : (start : Start) (before piece : List TransactionData) (n : ℕ) (found : Option DeviceParts)
+page_found : (start : Start) (before piece : List PastData) (n : ℕ) (found : Option DeviceParts)
     → start ≢ AllKnown
     → option_and_then (λ device. (known start device piece).page) found ≡ Some n
-    → option_map (λ device. (paging device (before ++ piece)).page) found ≡ Some n
+    → option_map (λ device. (paging device (transactions_of (before ++ piece))).page) found ≡ Some n
 page_found start before piece n None late is = absurd (none-some n is)
 page_found start before piece n (Some device) late is = ap Some (page_of_piece device before piece start n late is)
 
-pub page_at : (profile : List DeviceParts) (start : Start) (before piece : List TransactionData) (addr n : ℕ)
+pub page_at : (profile : List DeviceParts) (start : Start) (before piece : List PastData) (addr n : ℕ)
     → start ≢ AllKnown
-    → page start profile piece addr ≡ Some n → page_of_whole profile (before ++ piece) addr ≡ Some n
+    → page start profile piece addr ≡ Some n
+    → page_of_whole profile (transactions_of (before ++ piece)) addr ≡ Some n
 page_at profile start before piece addr n late is = page_found start before piece n (device_with addr profile) late is

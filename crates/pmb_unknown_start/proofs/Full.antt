@@ -8,11 +8,11 @@ use Rattle.std.specs.Option.{is_some, option_and_then, option_map}
 use Rattle.std.proofs.lemmas.Bool.{eq-eqb}
 use Rattle.std.proofs.lemmas.List.{length-map, map-set}
 use Rattle.pmb_command.specs.Parts.{DeviceParts, device_with}
-use Rattle.pmb_transaction.specs.Transaction.{TransactionData}
 use Rattle.pmb_note.specs.Paging.{PagingData, all_pages, common, first_paging, has_paged_mode, paging, selected_mode}
 use Rattle.pmb_note.specs.Paging.{mode as mode_of_whole, page as page_of_whole}
 use Rattle.pmb_unknown_start.specs.declared.mode.KnownMode.TheVariants.{Known, Unknown, NoPage}
 use Rattle.pmb_unknown_start.specs.declared.start.Start.TheVariants.{AllKnown}
+use Rattle.pmb_unknown_start.specs.Past.{PastData, transactions_of}
 use Rattle.pmb_unknown_start.specs.Known.{KnownPaging, first_known, known, known_mode, learn_mode, may_be, mode}
 use Rattle.pmb_unknown_start.specs.Known.{mode_of, mode_on_page, modes_after, page, shared_by, shared_mode}
 use Rattle.pmb_unknown_start.specs.Certain.{known_as}
@@ -45,14 +45,14 @@ modes_set true p value = on_known (nat_eq p.page all_pages) p.modes p.page value
 abbrev IsFull : KnownPaging → PagingData → Type 0
 IsFull k p = k ≡ full p
 
-pub all_is_known : (device : DeviceParts) (ts : List TransactionData)
-    → known AllKnown device ts ≡ full (paging device ts)
-all_is_known device ts = along device IsFull
+pub all_is_known : (device : DeviceParts) (past : List PastData)
+    → known AllKnown device past ≡ full (paging device (transactions_of past))
+all_is_known device past = along device IsFull
     (λ k p value is. ap (λ (l : KnownPaging). record { page = Some value; modes = l.modes }) is)
     (λ k p value is. ap (learn_mode device value) is
     ∙ ap (λ (modes : List (Option ℕ)). record { page = Some p.page; modes = modes })
     (modes_set (has_paged_mode device) p value))
-    AllKnown (λ k p is. is) ts (first_known AllKnown device) (first_paging device) refl
+    AllKnown (λ k p is. is) (λ k p is. is) past (first_known AllKnown device) (first_paging device) refl
 
 -- ---- what is read of it
 
@@ -87,24 +87,24 @@ selected : (b : Bool) (ns : List ℕ) (i : ℕ)
 selected true ns i = shared_is ns
 selected false ns i = on_page_is ns i
 
-mode_found : (ts : List TransactionData) (found : Option DeviceParts)
-    → mode_of (λ device. known AllKnown device ts) found
-    ≡ known_as (option_and_then (λ device. selected_mode (paging device ts)) found)
-mode_found ts None = refl
-mode_found ts (Some device) =
-    ap known_mode (all_is_known device ts) ∙ selected (nat_eq (paging device ts).page all_pages)
-    (paging device ts).modes (paging device ts).page
+mode_found : (past : List PastData) (found : Option DeviceParts)
+    → mode_of (λ device. known AllKnown device past) found
+    ≡ known_as (option_and_then (λ device. selected_mode (paging device (transactions_of past))) found)
+mode_found past None = refl
+mode_found past (Some device) =
+    let p : PagingData = paging device (transactions_of past) in
+    ap known_mode (all_is_known device past) ∙ selected (nat_eq p.page all_pages) p.modes p.page
 
-pub mode_is_known : (profile : List DeviceParts) (ts : List TransactionData) (addr : ℕ)
-    → mode AllKnown profile ts addr ≡ known_as (mode_of_whole profile ts addr)
-mode_is_known profile ts addr = mode_found ts (device_with addr profile)
+pub mode_is_known : (profile : List DeviceParts) (past : List PastData) (addr : ℕ)
+    → mode AllKnown profile past addr ≡ known_as (mode_of_whole profile (transactions_of past) addr)
+mode_is_known profile past addr = mode_found past (device_with addr profile)
 
-page_found : (ts : List TransactionData) (found : Option DeviceParts)
-    → option_and_then (λ device. (known AllKnown device ts).page) found
-    ≡ option_map (λ device. (paging device ts).page) found
-page_found ts None = refl
-page_found ts (Some device) = ap (λ (k : KnownPaging). k.page) (all_is_known device ts)
+page_found : (past : List PastData) (found : Option DeviceParts)
+    → option_and_then (λ device. (known AllKnown device past).page) found
+    ≡ option_map (λ device. (paging device (transactions_of past)).page) found
+page_found past None = refl
+page_found past (Some device) = ap (λ (k : KnownPaging). k.page) (all_is_known device past)
 
-pub page_is_known : (profile : List DeviceParts) (ts : List TransactionData) (addr : ℕ)
-    → page AllKnown profile ts addr ≡ page_of_whole profile ts addr
-page_is_known profile ts addr = page_found ts (device_with addr profile)
+pub page_is_known : (profile : List DeviceParts) (past : List PastData) (addr : ℕ)
+    → page AllKnown profile past addr ≡ page_of_whole profile (transactions_of past) addr
+page_is_known profile past addr = page_found past (device_with addr profile)

@@ -1,20 +1,21 @@
 -- PHASE, as it is told: what is told later takes the place of what was told before. For the law
 -- `pieces_say_what_the_whole_says`, and for `Phases`, which keeps at each address what was told last.
 use Rattle.std.proofs.Common.{◌≡◌, ◌≢◌, ◌⊎◌, inl, inr, ℕ, ◌+◌, ◌<◌, ◌≤◌, cond, get_or, slice_set, Bool, true, false}
-use Rattle.std.proofs.Common.{◌&&◌, Option, Some, None, List, [], ◌∷◌, ◌++◌, length, map, take, nat_eq, replicate}
-use Rattle.std.proofs.Common.{slice_get, refl, sym, ap, ◌∙◌, arith}
-use Rattle.std.specs.List.{flat_map}
+use Rattle.std.proofs.Common.{◌&&◌, Option, Some, None, List, [], ◌∷◌, ◌++◌, fold, length, map, take, nat_eq}
+use Rattle.std.proofs.Common.{replicate, slice_get, refl, sym, ap, ◌∙◌, arith}
 use Rattle.std.specs.Option.{is_some, option_and_then, option_or}
 use Rattle.std.proofs.lemmas.Bool.{eq-eqb, eqb-false, eqb-true, false≢true, ne_eqb}
 use Rattle.std.proofs.lemmas.List.{append_assoc, append-nil, get_or-replicate, get_or-set_other, get_or-set_same}
 use Rattle.std.proofs.lemmas.List.{length-set, map-append, take_more}
-use Rattle.std.proofs.lemmas.List.Concat.{flat_map-append}
+use Rattle.std.proofs.lemmas.List.Sums.{fold-append}
 use Rattle.std.proofs.lemmas.Option.{none-some, slice_get-get_or, slice_get_within}
 use Rattle.pmb_command.specs.Parts.{DeviceParts, device_with}
 use Rattle.pmb_transaction.specs.declared.part.Part.{Part}
-use Rattle.pmb_transaction.specs.Transaction.{TransactionData, part_data}
+use Rattle.pmb_transaction.specs.Transaction.{part_data}
 use Rattle.pmb_note.specs.Paging.{RegisterTold, told, told_by_part}
-use Rattle.pmb_unknown_start.specs.Phase.{last_phase, only_byte, phase, phase_code, phase_of, told_phase}
+use Rattle.pmb_unknown_start.specs.Past.{PastData, Said, Dropped}
+use Rattle.pmb_unknown_start.specs.Phase.{last_phase, only_byte, phase, phase_code, phase_of, told_phase, told_since}
+use Rattle.pmb_unknown_start.specs.Phase.{told_then}
 
 -- ---- what is told later
 
@@ -35,21 +36,32 @@ last_append addr (t ∷ before) after =
 
 -- ---- a piece of a capture
 
-module _ (addr number : ℕ) (before piece : List TransactionData) where
-  in_whole : (phases : Bool) → cond phases (last_phase addr (flat_map told piece)) None ≡ Some number
-      → cond phases (last_phase addr (flat_map told (before ++ piece))) None ≡ Some number
+-- what is told last with nothing before, is so with something before
+told_before : (addr number : ℕ) (before ts : List RegisterTold) (piece : List PastData)
+    → last_phase addr (fold told_then ts piece) ≡ Some number
+    → last_phase addr (fold told_then (before ++ ts) piece) ≡ Some number
+told_before addr number before ts [] known =
+    last_append addr before ts ∙ ap (λ (last : Option ℕ). option_or last (last_phase addr before)) known
+told_before addr number before ts (Said t ∷ piece) known =
+    ap (λ (us : List RegisterTold). last_phase addr (fold told_then us piece)) (append_assoc before ts (told t))
+    ∙ told_before addr number before (ts ++ told t) piece known
+told_before addr number before ts (Dropped ∷ piece) known = known
+
+module _ (addr number : ℕ) (before piece : List PastData) where
+  in_whole : (phases : Bool) → cond phases (last_phase addr (told_since piece)) None ≡ Some number
+      → cond phases (last_phase addr (told_since (before ++ piece))) None ≡ Some number
   in_whole false known = absurd (none-some number known)
   in_whole true known =
-      ap (last_phase addr) (flat_map-append told before piece)
-      ∙ last_append addr (flat_map told before) (flat_map told piece)
-      ∙ ap (λ (last : Option ℕ). option_or last (last_phase addr (flat_map told before))) known
+      ap (last_phase addr) (fold-append told_then [] before piece
+      ∙ ap (λ (ts : List RegisterTold). fold told_then ts piece) (sym (append-nil (told_since before))))
+      ∙ told_before addr number (told_since before) [] piece known
 
   of_found : (found : Option DeviceParts) → option_and_then (phase_of addr piece) found ≡ Some number
       → option_and_then (phase_of addr (before ++ piece)) found ≡ Some number
   of_found None known = absurd (none-some number known)
   of_found (Some device) known = in_whole (is_some device.phases) known
 
-pub phase_at : (profile : List DeviceParts) (before piece : List TransactionData) (addr number : ℕ)
+pub phase_at : (profile : List DeviceParts) (before piece : List PastData) (addr number : ℕ)
     → phase profile piece addr ≡ Some number → phase profile (before ++ piece) addr ≡ Some number
 phase_at profile before piece addr number = of_found addr number before piece (device_with addr profile)
 
@@ -91,12 +103,12 @@ of_high_address t high addr within =
 
 -- ---- what is known of a device that has phases
 
-pub of_device : (profile : List DeviceParts) (ts : List TransactionData) (addr : ℕ) (device : DeviceParts)
+pub of_device : (profile : List DeviceParts) (past : List PastData) (addr : ℕ) (device : DeviceParts)
     → device_with addr profile ≡ Some device → is_some device.phases ≡ true
-    → phase profile ts addr ≡ last_phase addr (flat_map told ts)
-of_device profile ts addr device found has =
-    ap (λ (o : Option DeviceParts). option_and_then (phase_of addr ts) o) found
-    ∙ ap (λ (b : Bool). cond b (last_phase addr (flat_map told ts)) None) has
+    → phase profile past addr ≡ last_phase addr (told_since past)
+of_device profile past addr device found has =
+    ap (λ (o : Option DeviceParts). option_and_then (phase_of addr past) o) found
+    ∙ ap (λ (b : Bool). cond b (last_phase addr (told_since past)) None) has
 
 -- ---- what is kept at each address
 
@@ -165,9 +177,6 @@ part_more ts parts i part within is =
     (sym (ap told_by more ∙ ap (map told_by_part) (map-append part_data (take i parts) (part ∷ []))
     ∙ map-append told_by_part (map part_data (take i parts)) (part_data part ∷ [])))
 
--- .. and transactions
-pub transaction_more : (ts : List TransactionData) (t : TransactionData)
-    → flat_map told ts ++ told t ≡ flat_map told (ts ++ t ∷ [])
-transaction_more ts t =
-    ap (λ (more : List RegisterTold). flat_map told ts ++ more) (sym (append-nil (told t)))
-    ∙ sym (flat_map-append told ts (t ∷ []))
+-- what is told with a transaction more, or a line that was dropped
+pub past_more : (past : List PastData) (x : PastData) → told_then (told_since past) x ≡ told_since (past ++ x ∷ [])
+past_more past x = sym (fold-append told_then [] past (x ∷ []))

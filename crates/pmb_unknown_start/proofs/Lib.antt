@@ -1,5 +1,6 @@
 pub mod Agreeing
 pub mod Telling
+pub mod Drops
 pub mod Cutting
 pub mod Full
 pub mod Assumed

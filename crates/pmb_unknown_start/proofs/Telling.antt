@@ -1,8 +1,10 @@
 -- What a transaction tells changes what is known (`KnownPaging`) as it changes what is
 -- (`PagingData`). For the law `what_is_known_is_certain`, and for Cutting and Full. Stated once for
--- any relation between the two that stays when PAGE is told, when VOUT_MODE is, and when VOUT_MODE is
--- untold (`along`); then for agreement: a known PAGE is that one, an unknown one is a page or all.
--- Late, agreement stays on every way (`follows`): what is untold agrees with each value.
+-- any relation between the two that stays when PAGE is told, when VOUT_MODE is, when VOUT_MODE is
+-- untold, and when a line was dropped (`along`); then for agreement: a known PAGE is that one, an unknown
+-- one is a page or all. Agreement stays on every way that PAGE and VOUT_MODE can go (`reaches`): what is
+-- untold or dropped agrees with each value. With all known in the whole it stays where at each line that
+-- was dropped PAGE is a page or all (`stays`).
 use Rattle.std.proofs.Common.{◌≡◌, ◌⊎◌, ℕ, ◌<◌, ◌≤◌, cond, slice_set, Bool, true, false, not, ◌||◌, Option, Some, None}
 use Rattle.std.proofs.Common.{List, [], ◌∷◌, fold, length, map, nat_eq, nat_lt, replicate, slice_get, inl, inr, refl}
 use Rattle.std.proofs.Common.{sym, ap, ◌∙◌, subst, arith}
@@ -17,16 +19,21 @@ use Rattle.pmb_unknown_start.specs.declared.mode.KnownMode.{KnownMode}
 use Rattle.pmb_unknown_start.specs.declared.mode.KnownMode.TheVariants.{Known, Unknown, NoPage}
 use Rattle.pmb_unknown_start.specs.declared.start.Start.{Start}
 use Rattle.pmb_unknown_start.specs.declared.start.Start.TheVariants.{AllKnown, Late, LateFixedMode}
+use Rattle.pmb_unknown_start.specs.Past.{PastData, Said, Dropped, transactions_of}
 use Rattle.pmb_unknown_start.specs.Restores.{untells}
-use Rattle.pmb_unknown_start.specs.Known.{KnownPaging, any_page, first_known, forget_modes, known, known_mode}
-use Rattle.pmb_unknown_start.specs.Known.{learn_bytes, learn_mode, learn_told, learn_transaction, learn_value}
-use Rattle.pmb_unknown_start.specs.Known.{learn_written, mode_on_page, mode_under, modes_after, shared_mode}
-use Rattle.pmb_unknown_start.specs.Known.{told_by_read}
-use Rattle.pmb_unknown_start.specs.Certain.{AgreesWith, CanBegin, CanFollow, CanFollowAll, CanFollowWrites, CanReach}
-use Rattle.pmb_unknown_start.specs.Certain.{IsOwnPage, MayHave, paging_from}
+use Rattle.pmb_unknown_start.specs.Known.{KnownPaging, any_page, first_known, forget_modes, forget_paging, known}
+use Rattle.pmb_unknown_start.specs.Known.{known_mode, learn_bytes, learn_mode, learn_past, learn_told}
+use Rattle.pmb_unknown_start.specs.Known.{learn_transaction, learn_value, learn_written, mode_on_page, mode_under}
+use Rattle.pmb_unknown_start.specs.Known.{modes_after, shared_mode, told_by_read}
+use Rattle.pmb_unknown_start.specs.Certain.{AgreesWith, CanBegin, CanFollow, CanFollowDrop, CanFollowPast}
+use Rattle.pmb_unknown_start.specs.Certain.{CanFollowWrites, CanReach, DropsOnOwnPage, IsOwnPage, MayHave}
 use Rattle.pmb_unknown_start.proofs.Agreeing.{Agree, IsShared, IsThat, agree_all, agree_known, agree_none}
 use Rattle.pmb_unknown_start.proofs.Agreeing.{agree_set, on_page, one_of_all, same_length, shared, somewhere_all}
 use Rattle.pmb_unknown_start.proofs.Agreeing.{somewhere_one}
+
+-- PAGE and VOUT_MODE of a device after transactions, from those that it began with
+abbrev pub paging_from : DeviceParts → PagingData → List TransactionData → PagingData
+paging_from device p ts = fold (after_transaction device) p ts
 
 -- ---- VOUT_MODE is set
 
@@ -106,7 +113,7 @@ module _ (device : DeviceParts) (R : KnownPaging → PagingData → Type 0)
         all_written ts (learn_written start device k t) (after_told device p t)
         (forgotten_if (untells device.address t) (learn_told device k t) (after_told device p t) (one_told t k p is))
 
-    by_transaction : (t : TransactionData) (k : KnownPaging) (p : PagingData) → R k p
+    pub by_transaction : (t : TransactionData) (k : KnownPaging) (p : PagingData) → R k p
         → R (learn_transaction start device k t) (after_transaction device p t)
     by_transaction (Write parts) k p is = all_written (map told_by_part parts) k p is
     by_transaction (Read t) k p is = one_told (told_by_read t) k p is
@@ -115,11 +122,14 @@ module _ (device : DeviceParts) (R : KnownPaging → PagingData → Type 0)
     by_transaction (Alert t) k p is = is
     by_transaction NoAlert k p is = is
 
-    pub along : (ts : List TransactionData) (k : KnownPaging) (p : PagingData) → R k p
-        → R (fold (learn_transaction start device) k ts) (paging_from device p ts)
-    along [] k p is = is
-    along (t ∷ ts) k p is = along ts (learn_transaction start device k t) (after_transaction device p t)
-        (by_transaction t k p is)
+    -- .. and when a line was dropped
+    pub along : ((k : KnownPaging) (p : PagingData) → R k p → R (forget_paging start k) p)
+        → (past : List PastData) (k : KnownPaging) (p : PagingData) → R k p
+        → R (fold (learn_past start device) k past) (paging_from device p (transactions_of past))
+    along dropped [] k p is = is
+    along dropped (Said t ∷ past) k p is = along dropped past (learn_transaction start device k t)
+        (after_transaction device p t) (by_transaction t k p is)
+    along dropped (Dropped ∷ past) k p is = along dropped past (forget_paging start k) p (dropped k p is)
 
 -- ---- what is known agrees with what is
 
@@ -128,10 +138,17 @@ abbrev pub PageAgrees : Option ℕ → PagingData → Type 0
 PageAgrees None p = (p.page < length p.modes) ⊎ (p.page ≡ all_pages)
 PageAgrees (Some page) p = page ≡ p.page
 
-pub record Agrees (k : KnownPaging) (p : PagingData) : Type 0 where
+-- late there is a VOUT_MODE for each page of the device
+abbrev pub HasPages : Start → DeviceParts → PagingData → Type 0
+HasPages AllKnown device p = Unit {0}
+HasPages Late device p = length p.modes ≡ device.pages
+HasPages LateFixedMode device p = length p.modes ≡ device.pages
+
+pub record Agrees (start : Start) (device : DeviceParts) (k : KnownPaging) (p : PagingData) : Type 0 where
   -- PAGE agrees, and so does VOUT_MODE on each page
   pub page : PageAgrees k.page p
   pub modes : Agree k.modes p.modes
+  pub pages : HasPages start device p
 
 -- the same PAGE, and as many pages
 page_stays : (page : Option ℕ) (p q : PagingData) → q.page ≡ p.page → length q.modes ≡ length p.modes
@@ -139,6 +156,12 @@ page_stays : (page : Option ℕ) (p q : PagingData) → q.page ≡ p.page → le
 page_stays None p q same count (inl within) = inl (omega (arith, same, count, within))
 page_stays None p q same count (inr all) = inr (same ∙ all)
 page_stays (Some page) p q same count is = is ∙ sym same
+
+pages_stay : (start : Start) (device : DeviceParts) (p q : PagingData) → length q.modes ≡ length p.modes
+    → HasPages start device p → HasPages start device q
+pages_stay AllKnown device p q count is = tt
+pages_stay Late device p q count is = count ∙ is
+pages_stay LateFixedMode device p q count is = count ∙ is
 
 -- all pages
 everywhere : (ms : List (Option ℕ)) (ns : List ℕ) (mode : ℕ) → Agree ms ns
@@ -174,96 +197,164 @@ modes_stay true (Some page) p ms mode is agree =
     (sym is)
     (on_known (nat_eq p.page all_pages) ms p.modes p.page mode agree)
 
--- where VOUT_MODE is untold, what is known agrees with each value
-left : (b : Bool) (k : KnownPaging) (p q : PagingData) → MayHave b p q → Agrees k p
-    → Agrees (cond b (forget_modes Late k) k) q
-left true k p q may is = record {
-  page = page_stays k.page p q may.0 may.1 is.page;
-  modes = agree_none (length k.modes) q.modes (may.1 ∙ sym (same_length k.modes p.modes is.modes));
-}
-left false k p q may is = subst (Agrees k) (sym may) is
-
-forgotten : (start : Start) (k : KnownPaging) (p : PagingData) → Agrees k p → Agrees (forget_modes start k) p
-forgotten AllKnown k p is = is
-forgotten Late k p is = left true k p p (refl, refl) is
-forgotten LateFixedMode k p is = is
-
--- PAGE stays known
+-- PAGE stays known where VOUT_MODE is untold
 page_kept : (start : Start) (k : KnownPaging) (n : ℕ) → IsThat k.page n → IsThat (forget_modes start k).page n
 page_kept AllKnown k n is = is
 page_kept Late k n is = is
 page_kept LateFixedMode k n is = is
 
-module _ (device : DeviceParts) where
-  with_page : (k : KnownPaging) (p : PagingData) (value : ℕ) → Agrees k p
-      → Agrees (record { page = Some value; modes = k.modes }) (record { page = value; modes = p.modes })
-  with_page k p value is = record { page = refl; modes = is.modes }
+-- .. and is not known late where a line was dropped
+page_dropped : (start : Start) (k : KnownPaging) (n : ℕ) → IsThat k.page n → IsThat (forget_paging start k).page n
+page_dropped AllKnown k n is = is
+page_dropped Late k n is = tt
+page_dropped LateFixedMode k n is = tt
 
-  with_mode_set : (k : KnownPaging) (p : PagingData) (value : ℕ) → Agrees k p
-      → Agrees (learn_mode device value k) (with_modes p (set_where (sets_all device p) p.modes p.page value))
-  with_mode_set k p value is =
+module _ (device : DeviceParts) where
+  -- where VOUT_MODE is untold, what is known agrees with each value
+  left : (b : Bool) (k : KnownPaging) (p q : PagingData) → MayHave b p q → Agrees Late device k p
+      → Agrees Late device (cond b (forget_modes Late k) k) q
+  left true k p q may is = record {
+    page = page_stays k.page p q may.0 may.1 is.page;
+    modes = agree_none (length k.modes) q.modes (may.1 ∙ sym (same_length k.modes p.modes is.modes));
+    pages = may.1 ∙ is.pages;
+  }
+  left false k p q may is = subst (Agrees Late device k) (sym may) is
+
+  forgotten : (start : Start) (k : KnownPaging) (p : PagingData) → Agrees start device k p
+      → Agrees start device (forget_modes start k) p
+  forgotten AllKnown k p is = is
+  forgotten Late k p is = left true k p p (refl, refl) is
+  forgotten LateFixedMode k p is = is
+
+  with_page : (start : Start) (k : KnownPaging) (p : PagingData) (value : ℕ) → Agrees start device k p
+      → Agrees start device (record { page = Some value; modes = k.modes }) (record { page = value; modes = p.modes })
+  with_page start k p value is = record {
+    page = refl;
+    modes = is.modes;
+    pages = pages_stay start device p (record { page = value; modes = p.modes }) refl is.pages;
+  }
+
+  with_mode_set : (start : Start) (k : KnownPaging) (p : PagingData) (value : ℕ) → Agrees start device k p
+      → Agrees start device (learn_mode device value k)
+      (with_modes p (set_where (sets_all device p) p.modes p.page value))
+  with_mode_set start k p value is =
       let modes = set_where (sets_all device p) p.modes p.page value in
+      let count : length modes ≡ length p.modes = same_count (sets_all device p) p.modes p.page value in
       record {
-        page = page_stays k.page p (with_modes p modes) refl (same_count (sets_all device p) p.modes p.page value)
-            is.page;
+        page = page_stays k.page p (with_modes p modes) refl count is.page;
         modes = modes_stay (has_paged_mode device) k.page p k.modes value is.page is.modes;
+        pages = pages_stay start device p (with_modes p modes) count is.pages;
       }
 
-  pub stays : (start : Start) (ts : List TransactionData) (k : KnownPaging) (p : PagingData) → Agrees k p
-      → Agrees (fold (learn_transaction start device) k ts) (paging_from device p ts)
-  stays start = along device Agrees with_page with_mode_set start (forgotten start)
-
-  -- PAGE alone needs nothing of what was before
-  pub page_known : (start : Start) (ts : List TransactionData) (k : KnownPaging) (p : PagingData)
-      → IsThat k.page p.page
-      → IsThat (fold (learn_transaction start device) k ts).page (paging_from device p ts).page
-  page_known start = along device (λ k p. IsThat k.page p.page) (λ k p value is. refl) (λ k p value is. is) start
-      (λ k p is. page_kept start k p.page is)
-
-  -- ---- late, on every way
-
-  told_stays : (t : RegisterTold) (k : KnownPaging) (p : PagingData) → Agrees k p
-      → Agrees (learn_told device k t) (after_told device p t)
-  told_stays = one_told device Agrees with_page with_mode_set
-
-  follows_writes : (ts : List RegisterTold) (k : KnownPaging) (p q : PagingData) → CanFollowWrites device p ts q
-      → Agrees k p → Agrees (fold (learn_written Late device) k ts) q
-  follows_writes [] k p q way is = subst (Agrees k) (sym way) is
-  follows_writes (t ∷ ts) k p q way is = follows_writes ts (learn_written Late device k t) way.0 q way.2
-      (left (untells device.address t) (learn_told device k t) (after_told device p t) way.0 way.1
-      (told_stays t k p is))
-
-  follows_one : (t : TransactionData) (k : KnownPaging) (p q : PagingData) → CanFollow device p t q → Agrees k p
-      → Agrees (learn_transaction Late device k t) q
-  follows_one (Write parts) k p q way is = follows_writes (map told_by_part parts) k p q way is
-  follows_one (Read t) k p q way is = subst (Agrees (learn_told device k (told_by_read t))) (sym way)
-      (told_stays (told_by_read t) k p is)
-  follows_one (Call t) k p q way is = subst (Agrees k) (sym way) is
-  follows_one (Refused t) k p q way is = follows_writes (map told_by_part t.parts) k p q way is
-  follows_one (Alert t) k p q way is = subst (Agrees k) (sym way) is
-  follows_one NoAlert k p q way is = subst (Agrees k) (sym way) is
-
-  follows : (ts : List TransactionData) (k : KnownPaging) (p q : PagingData) → CanFollowAll device p ts q → Agrees k p
-      → Agrees (fold (learn_transaction Late device) k ts) q
-  follows [] k p q way is = subst (Agrees k) (sym way) is
-  follows (t ∷ ts) k p q way is = follows ts (learn_transaction Late device k t) way.0 q way.2
-      (follows_one t k p way.0 way.1 is)
-
-  -- ---- what is known at first
+  said : (start : Start) (t : TransactionData) (k : KnownPaging) (p : PagingData) → Agrees start device k p
+      → Agrees start device (learn_transaction start device k t) (after_transaction device p t)
+  said start = by_transaction device (Agrees start device) (with_page start) (with_mode_set start) start
+      (forgotten start)
 
   -- a page or all, by the number of pages
   own : (p : PagingData) → length p.modes ≡ device.pages → IsOwnPage device p.page → PageAgrees None p
   own p long (inl within) = inl (omega arith)
   own p long (inr all) = inr all
 
+  -- where a line was dropped, what is known agrees with all that may be
+  left_by_drop : (start : Start) (k : KnownPaging) (p q : PagingData) → CanFollowDrop start device p q
+      → Agrees start device k p
+      → Agrees start device (forget_paging start k) q
+  left_by_drop AllKnown k p q way is = subst (Agrees AllKnown device k) (sym way) is
+  left_by_drop Late k p q way is =
+      let pages : length q.modes ≡ device.pages = way.1 ∙ is.pages in
+      record {
+        page = own q pages way.0;
+        modes = agree_none (length k.modes) q.modes (way.1 ∙ sym (same_length k.modes p.modes is.modes));
+        pages = pages;
+      }
+  left_by_drop LateFixedMode k p q way is =
+      let pages : length q.modes ≡ device.pages = ap (λ (modes : List ℕ). length modes) way.1 ∙ is.pages in
+      record { page = own q pages way.0; modes = subst (Agree k.modes) (sym way.1) is.modes; pages = pages }
+
+  -- .. and with what is, if PAGE is a page or all
+  goes_on : (start : Start) (p : PagingData) → IsOwnPage device p.page → CanFollowDrop start device p p
+  goes_on AllKnown p own_page = refl
+  goes_on Late p own_page = (own_page, refl)
+  goes_on LateFixedMode p own_page = (own_page, refl)
+
+  pub stays : (start : Start) (past : List PastData) (k : KnownPaging) (p : PagingData)
+      → DropsOnOwnPage device p past → Agrees start device k p
+      → Agrees start device (fold (learn_past start device) k past) (paging_from device p (transactions_of past))
+  stays start [] k p drops is = is
+  stays start (Said t ∷ past) k p drops is = stays start past (learn_transaction start device k t)
+      (after_transaction device p t) drops (said start t k p is)
+  stays start (Dropped ∷ past) k p drops is = stays start past (forget_paging start k) p drops.1
+      (left_by_drop start k p p (goes_on start p drops.0) is)
+
+  -- PAGE alone needs nothing of what was before
+  pub page_known : (start : Start) (past : List PastData) (k : KnownPaging) (p : PagingData)
+      → IsThat k.page p.page
+      → IsThat (fold (learn_past start device) k past).page (paging_from device p (transactions_of past)).page
+  page_known start = along device (λ k p. IsThat k.page p.page) (λ k p value is. refl) (λ k p value is. is) start
+      (λ k p is. page_kept start k p.page is) (λ k p is. page_dropped start k p.page is)
+
+  -- ---- on every way
+
+  told_stays : (t : RegisterTold) (k : KnownPaging) (p : PagingData) → Agrees Late device k p
+      → Agrees Late device (learn_told device k t) (after_told device p t)
+  told_stays = one_told device (Agrees Late device) (with_page Late) (with_mode_set Late)
+
+  follows_writes : (ts : List RegisterTold) (k : KnownPaging) (p q : PagingData) → CanFollowWrites device p ts q
+      → Agrees Late device k p → Agrees Late device (fold (learn_written Late device) k ts) q
+  follows_writes [] k p q way is = subst (Agrees Late device k) (sym way) is
+  follows_writes (t ∷ ts) k p q way is = follows_writes ts (learn_written Late device k t) way.0 q way.2
+      (left (untells device.address t) (learn_told device k t) (after_told device p t) way.0 way.1
+      (told_stays t k p is))
+
+  follows_said : (t : TransactionData) (k : KnownPaging) (p q : PagingData) → CanFollow device p t q
+      → Agrees Late device k p
+      → Agrees Late device (learn_transaction Late device k t) q
+  follows_said (Write parts) k p q way is = follows_writes (map told_by_part parts) k p q way is
+  follows_said (Read t) k p q way is = subst (Agrees Late device (learn_told device k (told_by_read t))) (sym way)
+      (told_stays (told_by_read t) k p is)
+  follows_said (Call t) k p q way is = subst (Agrees Late device k) (sym way) is
+  follows_said (Refused t) k p q way is = follows_writes (map told_by_part t.parts) k p q way is
+  follows_said (Alert t) k p q way is = subst (Agrees Late device k) (sym way) is
+  follows_said NoAlert k p q way is = subst (Agrees Late device k) (sym way) is
+
+  -- from another start the last value goes on
+  follows : (start : Start) (x : PastData) (k : KnownPaging) (p q : PagingData) → CanFollowPast start device p x q
+      → Agrees start device k p
+      → Agrees start device (learn_past start device k x) q
+  follows AllKnown (Said t) k p q way is = subst (Agrees AllKnown device (learn_transaction AllKnown device k t))
+      (sym way) (said AllKnown t k p is)
+  follows Late (Said t) k p q way is = follows_said t k p q way is
+  follows LateFixedMode (Said t) k p q way is =
+      subst (Agrees LateFixedMode device (learn_transaction LateFixedMode device k t)) (sym way)
+      (said LateFixedMode t k p is)
+  follows AllKnown Dropped k p q way is = left_by_drop AllKnown k p q way is
+  follows Late Dropped k p q way is = left_by_drop Late k p q way is
+  follows LateFixedMode Dropped k p q way is = left_by_drop LateFixedMode k p q way is
+
+  reaches : (start : Start) (past : List PastData) (k : KnownPaging) (p q : PagingData)
+      → CanReach start device p past q → Agrees start device k p
+      → Agrees start device (fold (learn_past start device) k past) q
+  reaches start [] k p q way is = subst (Agrees start device k) (sym way) is
+  reaches start (x ∷ past) k p q way is = reaches start past (learn_past start device k x) way.0 q way.2
+      (follows start x k p way.0 way.1 is)
+
+  -- ---- what is known at first
+
   -- what is known at first agrees with what may be
-  pub begins : (start : Start) (p : PagingData) → CanBegin start device p → Agrees (first_known start device) p
-  begins AllKnown p is = subst (Agrees (first_known AllKnown device)) (sym is)
-      (record { page = refl; modes = agree_known device.modes })
-  begins Late p is = record { page = own p is.1 is.0; modes = agree_none device.pages p.modes is.1 }
+  pub begins : (start : Start) (p : PagingData) → CanBegin start device p
+      → Agrees start device (first_known start device) p
+  begins AllKnown p is = subst (Agrees AllKnown device (first_known AllKnown device)) (sym is)
+      (record { page = refl; modes = agree_known device.modes; pages = tt })
+  begins Late p is = record {
+    page = own p is.1 is.0;
+    modes = agree_none device.pages p.modes is.1;
+    pages = is.1;
+  }
   begins LateFixedMode p is = record {
     page = own p is.1 is.0;
     modes = subst (Agree (map Some device.modes)) (sym is.2) (agree_known device.modes);
+    pages = is.1;
   }
 
 -- ---- what is read of it
@@ -295,8 +386,9 @@ read_under (Some n) ms p page agree =
     (slice_get p.modes p.page)
     (shared ms p.modes agree).0 (on_page ms p.modes p.page agree))
 
-pub mode_is : (k : KnownPaging) (p : PagingData) → Agrees k p → AgreesWith (known_mode k) (selected_mode p)
-mode_is k p is = read_under k.page k.modes p is.page is.modes
+pub mode_is : (start : Start) (device : DeviceParts) (k : KnownPaging) (p : PagingData) → Agrees start device k p
+    → AgreesWith (known_mode k) (selected_mode p)
+mode_is start device k p is = read_under k.page k.modes p is.page is.modes
 
 -- ---- what that says where something is known
 
@@ -308,28 +400,18 @@ pub page_that : (o : Option ℕ) (p : PagingData) → PageAgrees o p → IsThat 
 page_that None p is = tt
 page_that (Some page) p is = is
 
--- ---- what is known after transactions is certain
+-- ---- what is known after what went before is certain
 
--- .. where the last value goes on
-goes_on : (start : Start) (device : DeviceParts) (ts : List TransactionData) (p q : PagingData)
-    → CanBegin start device p → q ≡ paging_from device p ts → Agrees (known start device ts) q
-goes_on start device ts p q begin is = subst (Agrees (known start device ts)) (sym is)
-    (stays device start ts (first_known start device) p (begins device start p begin))
+module _ (start : Start) (device : DeviceParts) (past : List PastData) (p q : PagingData)
+    (begin : CanBegin start device p) (reach : CanReach start device p past q) where
+  reached : Agrees start device (known start device past) q
+  reached = reaches device start past (first_known start device) p q reach (begins device start p begin)
 
-reached : (start : Start) (device : DeviceParts) (ts : List TransactionData) (p q : PagingData)
-    → CanBegin start device p → CanReach start device p ts q → Agrees (known start device ts) q
-reached AllKnown device ts p q begin reach = goes_on AllKnown device ts p q begin reach
-reached Late device ts p q begin reach = follows device ts (first_known Late device) p q reach
-    (begins device Late p begin)
-reached LateFixedMode device ts p q begin reach = goes_on LateFixedMode device ts p q begin reach
-
-module _ (start : Start) (device : DeviceParts) (ts : List TransactionData) (p q : PagingData)
-    (begin : CanBegin start device p) (reach : CanReach start device p ts q) where
-  pub certain_mode : (o : Option ℕ) (k : KnownMode) → known_mode (known start device ts) ≡ k
+  pub certain_mode : (o : Option ℕ) (k : KnownMode) → known_mode (known start device past) ≡ k
       → (AgreesWith k (selected_mode q) → selected_mode q ≡ o) → selected_mode q ≡ o
   certain_mode o k is says = says (subst (λ (l : KnownMode). AgreesWith l (selected_mode q)) is
-      (mode_is (known start device ts) q (reached start device ts p q begin reach)))
+      (mode_is start device (known start device past) q reached))
 
-  pub certain_page : (page : ℕ) → (known start device ts).page ≡ Some page → q.page ≡ page
-  certain_page page is = page_is (known start device ts).page q.page page is
-      (page_that (known start device ts).page q (reached start device ts p q begin reach).page)
+  pub certain_page : (page : ℕ) → (known start device past).page ≡ Some page → q.page ≡ page
+  certain_page page is = page_is (known start device past).page q.page page is
+      (page_that (known start device past).page q reached.page)

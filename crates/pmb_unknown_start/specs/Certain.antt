@@ -1,7 +1,7 @@
 -- What it means that PAGE or VOUT_MODE is known: it is the same whatever they were where the
--- capture begins, and whatever a write may have set unseen.
+-- capture begins, and whatever a write, or a line that was dropped, may have set unseen.
 use Rattle.std.specs.Prelude.{◌≡◌, ◌⊎◌, ℕ, ◌<◌, ⊤, Bool, true, false, Option, Some, None, List, [], ◌∷◌, flat_map}
-use Rattle.std.specs.Prelude.{fold, length, map}
+use Rattle.std.specs.Prelude.{length, map}
 use Rattle.std.specs.List.{AllByRecursion}
 use Rattle.pmb_command.specs.Parts.{DeviceParts}
 use Rattle.pmb_transaction.specs.Transaction.{TransactionData, Write, Read, Call, Refused, Alert, NoAlert}
@@ -11,6 +11,7 @@ use Rattle.pmb_unknown_start.specs.declared.mode.KnownMode.{KnownMode}
 use Rattle.pmb_unknown_start.specs.declared.mode.KnownMode.TheVariants.{Known, Unknown, NoPage}
 use Rattle.pmb_unknown_start.specs.declared.start.Start.{Start}
 use Rattle.pmb_unknown_start.specs.declared.start.Start.TheVariants.{AllKnown, Late, LateFixedMode}
+use Rattle.pmb_unknown_start.specs.Past.{PastData, Said, Dropped, transactions_of}
 use Rattle.pmb_unknown_start.specs.Restores.{untells}
 use Rattle.pmb_unknown_start.specs.Known.{told_by_read}
 
@@ -25,10 +26,6 @@ abbrev pub CanBegin : Start → DeviceParts → PagingData → Type 0
 CanBegin AllKnown device p = p ≡ first_paging device
 CanBegin Late device p = IsOwnPage device p.page × (length p.modes ≡ device.pages)
 CanBegin LateFixedMode device p = IsOwnPage device p.page × (length p.modes ≡ device.pages) × (p.modes ≡ device.modes)
-
--- PAGE and VOUT_MODE of a device after transactions, from those that it began with
-abbrev pub paging_from : DeviceParts → PagingData → List TransactionData → PagingData
-paging_from device p ts = fold (after_transaction device) p ts
 
 -- What PAGE and VOUT_MODE may be afterwards: where VOUT_MODE is untold, any VOUT_MODE on each page;
 -- else those that are told.
@@ -51,26 +48,34 @@ CanFollow device p (Refused t) q = CanFollowWrites device p (map told_by_part t.
 CanFollow device p (Alert t) q = q ≡ p
 CanFollow device p NoAlert q = q ≡ p
 
--- .. and after transactions
-abbrev pub CanFollowAll : DeviceParts → PagingData → List TransactionData → PagingData → Type 0
-CanFollowAll device p [] q = q ≡ p
-CanFollowAll device p (t ∷ ts) q = (r : PagingData) × CanFollow device p t r × CanFollowAll device r ts q
+-- .. and after a line that was dropped: late PAGE selects any of its pages, or all, and VOUT_MODE is any
+-- on each page, but for one that is fixed. From the first start both go on.
+abbrev pub CanFollowDrop : Start → DeviceParts → PagingData → PagingData → Type 0
+CanFollowDrop AllKnown device p q = q ≡ p
+CanFollowDrop Late device p q = IsOwnPage device q.page × (length q.modes ≡ length p.modes)
+CanFollowDrop LateFixedMode device p q = IsOwnPage device q.page × (q.modes ≡ p.modes)
 
--- What PAGE and VOUT_MODE of a device may have become: late, a write may have set VOUT_MODE unseen,
--- and from another start its last value goes on.
-abbrev pub CanReach : Start → DeviceParts → PagingData → List TransactionData → PagingData → Type 0
-CanReach AllKnown device p ts q = q ≡ paging_from device p ts
-CanReach Late device p ts q = CanFollowAll device p ts q
-CanReach LateFixedMode device p ts q = q ≡ paging_from device p ts
+-- What PAGE and VOUT_MODE of a device may be after a transaction or a line that was dropped: late, a
+-- write may have set VOUT_MODE unseen, and from another start its last value goes on.
+abbrev pub CanFollowPast : Start → DeviceParts → PagingData → PastData → PagingData → Type 0
+CanFollowPast AllKnown device p (Said t) q = q ≡ after_transaction device p t
+CanFollowPast Late device p (Said t) q = CanFollow device p t q
+CanFollowPast LateFixedMode device p (Said t) q = q ≡ after_transaction device p t
+CanFollowPast start device p Dropped q = CanFollowDrop start device p q
 
--- PAGE is certain to have a value after transactions
-abbrev pub IsCertainPage : Start → DeviceParts → List TransactionData → ℕ → Type 0
-IsCertainPage start device ts page = (p q : PagingData) → CanBegin start device p → CanReach start device p ts q
+-- .. and after all that went before
+abbrev pub CanReach : Start → DeviceParts → PagingData → List PastData → PagingData → Type 0
+CanReach start device p [] q = q ≡ p
+CanReach start device p (x ∷ past) q = (r : PagingData) × CanFollowPast start device p x r × CanReach start device r past q
+
+-- PAGE is certain to have a value after what went before
+abbrev pub IsCertainPage : Start → DeviceParts → List PastData → ℕ → Type 0
+IsCertainPage start device past page = (p q : PagingData) → CanBegin start device p → CanReach start device p past q
     → q.page ≡ page
 
 -- the VOUT_MODE of the selected pages is certain to be one, or that there is none
-abbrev pub IsCertainMode : Start → DeviceParts → List TransactionData → Option ℕ → Type 0
-IsCertainMode start device ts mode = (p q : PagingData) → CanBegin start device p → CanReach start device p ts q
+abbrev pub IsCertainMode : Start → DeviceParts → List PastData → Option ℕ → Type 0
+IsCertainMode start device past mode = (p q : PagingData) → CanBegin start device p → CanReach start device p past q
     → selected_mode q ≡ mode
 
 -- what is known of a mode agrees with the one that is
@@ -86,7 +91,7 @@ known_as (Some mode) = Known mode
 
 -- ---- a capture that is cut
 
--- what is told of a device sets PAGE to its pages or to all
+-- of what is told of a device, PAGE is a page that it has, or all
 abbrev pub IsOwnPageTold : DeviceParts → RegisterTold → Type 0
 IsOwnPageTold device t = t.addr ≡ device.address → t.code ≡ page_code → (page : ℕ) → t.bytes ≡ page ∷ []
     → IsOwnPage device page
@@ -95,11 +100,19 @@ IsOwnPageTold device t = t.addr ≡ device.address → t.code ≡ page_code → 
 abbrev pub HasFirstModes : DeviceParts → List TransactionData → Type 0
 HasFirstModes device ts = (paging device ts).modes ≡ device.modes
 
--- Transactions after which a capture may be cut, so that the rest is read as the start says: where
--- all is known there are none, and else PAGE is only ever set to pages that the device has, or ffh,
--- and each page has the VOUT_MODE of the profile at the cut where that is fixed.
-abbrev pub CanBeCutAfter : Start → DeviceParts → List TransactionData → Type 0
+-- What may stand before a cut, so that the rest is read as the start says: where all is known nothing,
+-- and else PAGE was only ever written to, or read as, pages that the device has, or ffh, and each page
+-- has the VOUT_MODE of the profile at the cut where that is fixed.
+abbrev pub CanBeCutAfter : Start → DeviceParts → List PastData → Type 0
 CanBeCutAfter AllKnown device before = before ≡ []
-CanBeCutAfter Late device before = AllByRecursion (IsOwnPageTold device) (flat_map told before)
-CanBeCutAfter LateFixedMode device before = AllByRecursion (IsOwnPageTold device) (flat_map told before)
-    × HasFirstModes device before
+CanBeCutAfter Late device before = AllByRecursion (IsOwnPageTold device) (flat_map told (transactions_of before))
+CanBeCutAfter LateFixedMode device before = AllByRecursion (IsOwnPageTold device) (flat_map told (transactions_of before))
+    × HasFirstModes device (transactions_of before)
+
+-- Where all is known from the start, PAGE goes on over a line that was dropped, and is known late only to be
+-- a page that the device has, or ffh: these agree where at each such line PAGE is one of them, from PAGE and
+-- VOUT_MODE before all that is said.
+abbrev pub DropsOnOwnPage : DeviceParts → PagingData → List PastData → Type 0
+DropsOnOwnPage device p [] = ⊤
+DropsOnOwnPage device p (Said t ∷ past) = DropsOnOwnPage device (after_transaction device p t) past
+DropsOnOwnPage device p (Dropped ∷ past) = IsOwnPage device p.page × DropsOnOwnPage device p past

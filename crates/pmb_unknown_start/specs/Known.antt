@@ -3,7 +3,7 @@
 --
 -- What is told, and what PAGE and VOUT_MODE are, is in `pmb_note`. A PAGE that is not known is one of
 -- the device's pages, or ffh for all. A write that sets VOUT_MODE unseen (`Restores`) leaves it
--- untold. That what is known is so is in `Certain`.
+-- untold, and a line that was dropped (`Past`) both. That what is known is so is in `Certain`.
 use Rattle.std.specs.Prelude.{ℕ, Bool, true, false, not, if◌then◌else◌, Option, Some, None, List, [], ◌∷◌, fold}
 use Rattle.std.specs.Prelude.{length, map, nat_eq, option_and_then, replicate, slice_get, slice_set}
 use Rattle.std.specs.List.{list_all}
@@ -15,6 +15,7 @@ use Rattle.pmb_unknown_start.specs.declared.mode.KnownMode.{KnownMode}
 use Rattle.pmb_unknown_start.specs.declared.mode.KnownMode.TheVariants.{Known, Unknown, NoPage}
 use Rattle.pmb_unknown_start.specs.declared.start.Start.{Start}
 use Rattle.pmb_unknown_start.specs.declared.start.Start.TheVariants.{AllKnown, Late, LateFixedMode}
+use Rattle.pmb_unknown_start.specs.Past.{PastData, Said, Dropped}
 use Rattle.pmb_unknown_start.specs.Restores.{untells}
 
 -- PAGE of a device, and the value of VOUT_MODE on each page, from page 0 on, where they are known.
@@ -115,11 +116,24 @@ learn_transaction start device k (Refused t) = fold (learn_written start device)
 learn_transaction start device k (Alert t) = k
 learn_transaction start device k NoAlert = k
 
+-- ---- what was dropped
+
+-- A line was dropped, which may have set PAGE and VOUT_MODE: late they are not known then, but for a
+-- VOUT_MODE that is fixed. From the first start both go on.
+abbrev pub forget_paging : Start → KnownPaging → KnownPaging
+forget_paging AllKnown k = k
+forget_paging Late k = record { page = None; modes = replicate (length k.modes) None }
+forget_paging LateFixedMode k = record { page = None; modes = k.modes }
+
 -- ---- what is known after all
 
--- what is known of a device after transactions
-abbrev pub known : Start → DeviceParts → List TransactionData → KnownPaging
-known start device ts = fold (learn_transaction start device) (first_known start device) ts
+abbrev pub learn_past : Start → DeviceParts → KnownPaging → PastData → KnownPaging
+learn_past start device k (Said t) = learn_transaction start device k t
+learn_past start device k Dropped = forget_paging start k
+
+-- what is known of a device after what went before
+abbrev pub known : Start → DeviceParts → List PastData → KnownPaging
+known start device past = fold (learn_past start device) (first_known start device) past
 
 -- the first mode that is known
 abbrev pub first_told : List (Option ℕ) → Option ℕ
@@ -168,13 +182,13 @@ abbrev pub mode_of : (DeviceParts → KnownPaging) → Option DeviceParts → Kn
 mode_of now None = NoPage
 mode_of now (Some device) = known_mode (now device)
 
--- .. of the device with an address after transactions
-abbrev pub mode : Start → List DeviceParts → List TransactionData → ℕ → KnownMode
-mode start profile ts addr = mode_of (λ device. known start device ts) (device_with addr profile)
+-- .. of the device with an address
+abbrev pub mode : Start → List DeviceParts → List PastData → ℕ → KnownMode
+mode start profile past addr = mode_of (λ device. known start device past) (device_with addr profile)
 
 -- its PAGE, where it is known
-abbrev pub page : Start → List DeviceParts → List TransactionData → ℕ → Option ℕ
-page start profile ts addr = option_and_then (λ device. (known start device ts).page) (device_with addr profile)
+abbrev pub page : Start → List DeviceParts → List PastData → ℕ → Option ℕ
+page start profile past addr = option_and_then (λ device. (known start device past).page) (device_with addr profile)
 
 -- ---- what is assumed
 
@@ -184,5 +198,5 @@ is_unknown Unknown = true
 is_unknown NoPage = false
 
 -- The mode of a device is assumed where it would not be known, had the capture begun in the middle.
-abbrev pub is_assumed : List DeviceParts → List TransactionData → ℕ → Bool
-is_assumed profile ts addr = is_unknown (mode Late profile ts addr)
+abbrev pub is_assumed : List DeviceParts → List PastData → ℕ → Bool
+is_assumed profile past addr = is_unknown (mode Late profile past addr)

@@ -1,5 +1,6 @@
 pub mod Restores
 pub mod Known
+pub mod Past
 pub mod Phase
 pub mod Late
 pub mod Certain

@@ -1,11 +1,12 @@
 -- What is known of PHASE of each device (PMBus Part II 1.3, PHASE), as the transactions on a bus tell
--- it. It is not known at first, whatever else is, and a write of PAGE leaves it.
-use Rattle.std.specs.Prelude.{ℕ, ◌&&◌, if◌then◌else◌, Option, Some, None, List, [], ◌∷◌, flat_map, nat_eq}
+-- it. It is not known at first, whatever else is, nor after a line that was dropped, and a write of PAGE
+-- leaves it.
+use Rattle.std.specs.Prelude.{ℕ, ◌&&◌, if◌then◌else◌, Option, Some, None, List, [], ◌∷◌, ◌++◌, fold, nat_eq}
 use Rattle.std.specs.Prelude.{option_and_then}
 use Rattle.std.specs.Option.{is_some, option_or}
 use Rattle.pmb_command.specs.Parts.{DeviceParts, device_with}
-use Rattle.pmb_transaction.specs.Transaction.{TransactionData}
 use Rattle.pmb_note.specs.Paging.{RegisterTold, told}
+use Rattle.pmb_unknown_start.specs.Past.{PastData, Said, Dropped}
 
 abbrev pub phase_code : ℕ
 phase_code = 0x04
@@ -25,10 +26,19 @@ abbrev pub last_phase : ℕ → List RegisterTold → Option ℕ
 last_phase addr [] = None
 last_phase addr (t ∷ ts) = option_or (last_phase addr ts) (told_phase addr t)
 
--- PHASE of a device at an address after transactions, where it is known: none where it has no phases
-abbrev pub phase_of : ℕ → List TransactionData → DeviceParts → Option ℕ
-phase_of addr ts device = if is_some device.phases then last_phase addr (flat_map told ts) else None
+-- what is told with a transaction more; nothing behind a line that was dropped
+abbrev pub told_then : List RegisterTold → PastData → List RegisterTold
+told_then ts (Said t) = ts ++ told t
+told_then ts Dropped = []
+
+-- what is told since the last line that was dropped
+abbrev pub told_since : List PastData → List RegisterTold
+told_since past = fold told_then [] past
+
+-- PHASE of a device at an address after what went before, where it is known: none where it has no phases
+abbrev pub phase_of : ℕ → List PastData → DeviceParts → Option ℕ
+phase_of addr past device = if is_some device.phases then last_phase addr (told_since past) else None
 
 -- .. of the device with an address: none where the profile has no such device
-abbrev pub phase : List DeviceParts → List TransactionData → ℕ → Option ℕ
-phase profile ts addr = option_and_then (phase_of addr ts) (device_with addr profile)
+abbrev pub phase : List DeviceParts → List PastData → ℕ → Option ℕ
+phase profile past addr = option_and_then (phase_of addr past) (device_with addr profile)

@@ -6,7 +6,7 @@ ghost use Rattle.std.specs.Prelude.{◌≡◌, ◌≤◌, ◌||◌, None, Some, 
 ghost use Rattle.std.specs.List.{list_all};
 ghost use Rattle.std.specs.Option.{is_some};
 ghost use Rattle.pmb_note.specs.Paging.{has_paged_mode, page_code, vout_mode_code};
-ghost use Rattle.pmb_unknown_start.specs.Known.{any_page, first_known, first_modes, first_page, first_told, forget_modes, kept_under, known_mode, learn_mode, learn_value, may_be, mode_on_page, modes_after, modes_somewhere, shared_by, shared_mode};
+ghost use Rattle.pmb_unknown_start.specs.Known.{any_page, first_known, first_modes, first_page, first_told, forget_modes, forget_paging, kept_under, known_mode, learn_mode, learn_value, may_be, mode_on_page, modes_after, modes_somewhere, shared_by, shared_mode};
 
 use crate::mode::KnownMode;
 use crate::start::Start;
@@ -89,6 +89,20 @@ impl Known {
         match start {
             Start::AllKnown | Start::LateFixedMode => {}
             Start::Late => self.modes.as_mut_slice().fill(None),
+        }
+    }
+
+    /// Forgets PAGE and VOUT_MODE, where a start does when a line was dropped.
+    pub fn forget_paging(&mut self, start: Start)
+        ensures { self.new ≡ forget_paging start self.old }
+    {
+        match start {
+            Start::AllKnown => {}
+            Start::Late => {
+                self.page = None;
+                self.modes.as_mut_slice().fill(None);
+            }
+            Start::LateFixedMode => self.page = None,
         }
     }
 

@@ -5,11 +5,12 @@
 
 ghost use Rattle.std.specs.Prelude.{◌≡◌, ◌++◌, ◌∷◌, [], if◌then◌else◌, List, fold, map, nat_eq, option_map, Some};
 ghost use Rattle.pmb_command.specs.Parts.{DeviceParts, device_with};
-ghost use Rattle.pmb_transaction.specs.Transaction.{TransactionData, part_data, transaction_data};
+ghost use Rattle.pmb_transaction.specs.Transaction.{part_data, transaction_data};
 ghost use Rattle.pmb_note.specs.Paging.{told_by_part};
 ghost use Rattle.pmb_unknown_start.specs.declared.start.Start.{Start as StartData};
-ghost use Rattle.pmb_unknown_start.specs.Known.{KnownPaging, first_known, forget_modes, learn_told, learn_transaction, learn_written, mode_of};
+ghost use Rattle.pmb_unknown_start.specs.Known.{KnownPaging, first_known, forget_modes, forget_paging, learn_told, learn_transaction, learn_written, mode_of};
 ghost use Rattle.pmb_unknown_start.specs.Late.{HasSeen, is_assumed as is_assumed_after, mode as mode_after, page as page_after, phase as phase_after};
+ghost use Rattle.pmb_unknown_start.specs.Past.{PastData, Said, Dropped};
 ghost use Rattle.pmb_unknown_start.specs.machine.Standing.{Keeps, kept_at};
 
 use crate::known::{Known, is_paging};
@@ -36,7 +37,11 @@ const ADDRESSES: u8 = 128;
 /// (12h, 14h, 16h, 18h), and of VOUT_MODE by PAGE_PLUS_WRITE (05h), VOUT_MODE of that device is
 /// untold: it is unknown again with [`Start::Late`], and keeps its last value with another start.
 ///
-/// PHASE is not known at first with any start.
+/// After a line that was dropped ([`Late::drop_line`]) PAGE and VOUT_MODE of each device are unknown
+/// again with [`Start::Late`], and PAGE alone with [`Start::LateFixedMode`]. With [`Start::AllKnown`]
+/// they keep their last values, which are then assumed.
+///
+/// PHASE is not known at first with any start, nor after a line that was dropped.
 #[derive(Drop)]
 pub struct Late<'p> {
     profile: &'p Profile,
@@ -64,8 +69,8 @@ impl<'p> Late<'p> {
 
     /// Takes the next transaction.
     pub fn observe(&mut self, transaction: &Transaction)
-        ensures { (profile : List DeviceParts) (start : StartData) (ts : List TransactionData) → HasSeen self.old profile start ts
-            → HasSeen self.new profile start (ts ++ transaction_data transaction.now ∷ []) }
+        ensures { (profile : List DeviceParts) (start : StartData) (past : List PastData) → HasSeen self.old profile start past
+            → HasSeen self.new profile start (past ++ Said (transaction_data transaction.now) ∷ []) }
     {
         let known = self.known.as_mut_slice();
         learn_transaction(self.profile, known, self.start, transaction);
@@ -74,11 +79,23 @@ impl<'p> Late<'p> {
         self.phases.observe(transaction);
     }
 
+    /// A line of the capture was dropped, and what it did is not known.
+    pub fn drop_line(&mut self)
+        ensures { (profile : List DeviceParts) (start : StartData) (past : List PastData) → HasSeen self.old profile start past
+            → HasSeen self.new profile start (past ++ Dropped ∷ []) }
+    {
+        let known = self.known.as_mut_slice();
+        forget_each(known, self.start);
+        let told = self.told.as_mut_slice();
+        forget_each(told, Start::Late);
+        self.phases = Phases::new();
+    }
+
     /// The value of PAGE of the device with an address, ffh for all pages, also where it has no page of
     /// that number; `None` where it is not known, and where the profile has no such device.
     pub fn page(&self, addr: u8) -> Option<u8>
-        ensures { (profile : List DeviceParts) (start : StartData) (ts : List TransactionData) → HasSeen self.now profile start ts
-            → result ≡ page_after start profile ts addr }
+        ensures { (profile : List DeviceParts) (start : StartData) (past : List PastData) → HasSeen self.now profile start past
+            → result ≡ page_after start profile past addr }
     {
         match kept_at(self.profile, self.known.as_slice(), addr) {
             Some(known) => known.page(),
@@ -89,32 +106,43 @@ impl<'p> Late<'p> {
     /// What is known of the VOUT_MODE of the device with an address, on the page that is selected;
     /// where all are, or PAGE is not known, of the one that they share.
     pub fn mode(&self, addr: u8) -> KnownMode
-        ensures { (profile : List DeviceParts) (start : StartData) (ts : List TransactionData) → HasSeen self.now profile start ts
-            → result ≡ mode_after start profile ts addr }
+        ensures { (profile : List DeviceParts) (start : StartData) (past : List PastData) → HasSeen self.now profile start past
+            → result ≡ mode_after start profile past addr }
     {
         mode_in(self.profile, self.known.as_slice(), addr)
     }
 
     /// Whether this VOUT_MODE is assumed: with [`Start::Late`] it would be [`KnownMode::Unknown`]. What
-    /// isn't assumed is the same with each start.
+    /// isn't assumed is the same with each start, if PAGE is a page that the device has, or ffh, at each
+    /// line that was dropped.
     pub fn is_assumed(&self, addr: u8) -> bool
-        ensures { (profile : List DeviceParts) (start : StartData) (ts : List TransactionData) → HasSeen self.now profile start ts
-            → result ≡ is_assumed_after profile ts addr }
+        ensures { (profile : List DeviceParts) (start : StartData) (past : List PastData) → HasSeen self.now profile start past
+            → result ≡ is_assumed_after profile past addr }
     {
         is_unknown(mode_in(self.profile, self.told.as_slice(), addr))
     }
 
     /// The value of PHASE of the device with an address, ffh for all phases: the last one that was
-    /// written to it or read from it. `None` where none was, where the device has no phases, and where
-    /// the profile has no such device.
+    /// written to it or read from it since the last line that was dropped. `None` where none was, where
+    /// the device has no phases, and where the profile has no such device.
     pub fn phase(&self, addr: u8) -> Option<u8>
-        ensures { (profile : List DeviceParts) (start : StartData) (ts : List TransactionData) → HasSeen self.now profile start ts
-            → result ≡ phase_after profile ts addr }
+        ensures { (profile : List DeviceParts) (start : StartData) (past : List PastData) → HasSeen self.now profile start past
+            → result ≡ phase_after profile past addr }
     {
         match self.profile.device(addr) {
             Some(device) if device.phases().is_some() => self.phases.last(addr),
             Some(_) | None => None,
         }
+    }
+}
+
+// A line was dropped: forgets what a start does then, of the device at each address.
+fn forget_each(known: &mut [Known], start: Start)
+    ensures { (profile : List DeviceParts) (now : DeviceParts → KnownPaging) → Keeps known.old profile now
+        → Keeps known.new profile (λ device. forget_paging start (now device)) }
+{
+    for kept in known.iter_mut() {
+        kept.forget_paging(start);
     }
 }
 

@@ -5,7 +5,8 @@
 //! is known holds for each VOUT_MODE and each PAGE that a device can have where the capture begins: one
 //! of its pages, or ffh. [`Start`] says what is known at first. With each start, [`Late::is_assumed`]
 //! says whether VOUT_MODE is assumed: it would not be known, had the capture begun in the middle.
-//! PHASE is known with each start only once it was told ([`Late::phase`]).
+//! PHASE is known with each start only once it was told ([`Late::phase`]). A line that was dropped
+//! ([`Late::drop_line`]) may have set each of them.
 //!
 //! ```rust
 //! let profile = Profile::from_toml(rt.alloc(), SAMPLE.as_bytes())?;

@@ -9,6 +9,7 @@ use Rattle.pmb_facts.specs.Fact.{FactData, WhatData}
 use Rattle.pmb_facts.specs.Fact as fact
 use Rattle.pmb_places.specs.declared.places.Place.{Place}
 use Rattle.pmb_transaction.specs.Transaction.{PartData, TransactionData, Write, Read, Call, Refused, Alert, NoAlert}
+use Rattle.pmb_unknown_start.specs.Past.{PastData}
 use Rattle.pmb_fact_stream.specs.declared.stream.Begun.{Begun}
 
 abbrev pub begun_at : (ℕ → Place) → ℕ → Begun
@@ -30,9 +31,9 @@ begun_behind begun at place Stop = begun
 abbrev pub begun_head : Option (List ℕ) → Begun → Head
 begun_head time first = record { at = first.at; place = first.place; time = time }
 
--- ---- the facts of a packet, by the transactions before it, its time and what is kept of its STARTs
+-- ---- the facts of a packet, by what went before it, its time and what is kept of its STARTs
 
-module _ (before : List TransactionData) (time : Option (List ℕ)) where
+module _ (before : List PastData) (time : Option (List ℕ)) where
   abbrev pub kept_fact : WhatData → Begun → FactData
   kept_fact what first = record { before = before; head = begun_head time first; what = what }
 

@@ -39,19 +39,19 @@ stream_tally stream = stream.tally
 
 -- what is known where a packet begins after what it was given
 abbrev pub stream_seen : Stream → Before → SeenData
-stream_seen stream b = seen_behind (stream_choice stream) (stream_profile stream) b.ts
+stream_seen stream b = seen_behind (stream_choice stream) (stream_profile stream) b.past
 
 -- the time that it keeps of what is under way
 abbrev pub stream_time : Stream → Option (List ℕ)
 stream_time stream = kept_time stream.time
 
--- It was given these bytes, which hold so many events that were taken, of which these transactions
--- came, and it counted so much.
+-- It was given these bytes, which hold so many events that were taken; of these the transactions came
+-- that went before, with the lines that were dropped; and it counted so much.
 pub record StreamKnows (b : Before) (stream : Stream) : Type 0 where
   pub places : PlacesStandAt stream.places b.read
   pub word : OpenWordStandsAt stream.word b.read
   pub count : stream.count ≡ capped b.n
-  pub late : HasSeen stream.late (stream_profile stream) stream.choice.start b.ts
+  pub late : HasSeen stream.late (stream_profile stream) stream.choice.start b.past
   pub counts : CountsAre stream.counts b.counts
   pub tally : IsTallyOf b.counts.packets (b.counts.refusals + b.counts.bad_tokens) stream.tally
 

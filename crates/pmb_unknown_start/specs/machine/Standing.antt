@@ -1,11 +1,11 @@
 -- What a `Late` keeps.
-use Rattle.std.specs.Prelude.{◌≡◌, ℕ, ◌<◌, Option, Some, List, flat_map, option_and_then, slice_get}
+use Rattle.std.specs.Prelude.{◌≡◌, ℕ, ◌<◌, Option, Some, List, option_and_then, slice_get}
 use Rattle.pmb_command.specs.Parts.{DeviceParts, device_with}
 use Rattle.pmb_transaction.specs.ByAddress.{KeptByAddress}
-use Rattle.pmb_transaction.specs.Transaction.{TransactionData}
-use Rattle.pmb_note.specs.Paging.{RegisterTold, told}
+use Rattle.pmb_note.specs.Paging.{RegisterTold}
 use Rattle.pmb_unknown_start.specs.Known.{KnownPaging, known}
-use Rattle.pmb_unknown_start.specs.Phase.{last_phase}
+use Rattle.pmb_unknown_start.specs.Past.{PastData}
+use Rattle.pmb_unknown_start.specs.Phase.{last_phase, told_since}
 use Rattle.pmb_unknown_start.specs.declared.late.Late.{Late}
 use Rattle.pmb_unknown_start.specs.declared.phases.Phases.{Phases}
 use Rattle.pmb_unknown_start.specs.declared.start.Start.{Start}
@@ -29,10 +29,10 @@ pub record StandsSo (late : Late) (profile : List DeviceParts) (start : Start)
   pub told : Keeps late.told.items profile late_now
   pub phases : KeepsPhases late.phases ts
 
--- A `Late` of a profile was given these transactions.
-abbrev pub HasSeen : Late → List DeviceParts → Start → List TransactionData → Type 0
-HasSeen late profile start ts = StandsSo late profile start (λ device. known start device ts)
-    (λ device. known starts.Late device ts) (flat_map told ts)
+-- A `Late` of a profile was given what went before.
+abbrev pub HasSeen : Late → List DeviceParts → Start → List PastData → Type 0
+HasSeen late profile start past = StandsSo late profile start (λ device. known start device past)
+    (λ device. known starts.Late device past) (told_since past)
 
 -- what is kept in a list for the device with an address
 abbrev pub kept_at : List KnownPaging → List DeviceParts → ℕ → Option KnownPaging

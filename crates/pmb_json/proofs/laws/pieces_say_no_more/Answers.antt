@@ -1,22 +1,31 @@
-use Rattle.std.proofs.Common.{inr, List, [], ◌++◌, ◌∙◌}
+use Rattle.std.proofs.Common.{inr, List, ◌++◌, ◌∙◌, refl, subst, sym}
 use Rattle.pmb_unknown_start.specs.declared.start.Start.TheVariants.{AllKnown}
-use Rattle.pmb_note.specs.Paging.{mode as mode_of_whole}
-use Rattle.pmb_transaction.specs.Transaction.{TransactionData}
-use Rattle.pmb_json.specs.Pieces.{SameTimes}
-use Rattle.pmb_json.proofs.Pieces.{spans_said}
+use Rattle.pmb_unknown_start.specs.Past.{PastData, transactions_of}
+use Rattle.pmb_note.specs.Paging.{mode as mode_of_whole, paging}
+use Rattle.pmb_json.specs.Pieces.{DropsOnOwnPages, SameTimes}
+use Rattle.pmb_json.proofs.Dropped.{drops_then_said, spans_are}
+use Rattle.pmb_json.proofs.NoMore.{IsAfter, stand_after}
+use Rattle.pmb_json.proofs.Pieces.{Agree, StandBeside, spans_said}
 use Rattle.pmb_json.proofs.laws.pieces_say_no_more.Goals as goal
 
 pub returns : goal.returns
-returns c choice profile place there times theirs before n spans bus late told so =
-    spans_said c.objects_are_of_facts.ensures SameTimes choice profile choice.start AllKnown place there times theirs n
-    spans [] before (λ at. inr (told at))
-    (λ (ts : List TransactionData). record {
-      pages = λ addr number is. c.all_that_is_known_is_the_context.ensures.page profile (before ++ ts) addr
-          ∙ c.pieces_say_what_the_whole_says.ensures.page profile choice.start before ts addr number late is;
-      phases = λ addr number is. c.pieces_say_what_the_whole_says.ensures.phase profile before ts addr number is;
+returns c choice profile place there times theirs before within n spans bus late told so drops =
+    let stand : StandBeside profile choice.start AllKnown (IsAfter before) (DropsOnOwnPages profile before) =
+    stand_after profile choice.start before (DropsOnOwnPages profile before) (λ x y is ok.
+    subst (λ (past : List PastData). Agree profile choice.start AllKnown x past) (sym is)
+    (record {
+      pages = λ addr number known. c.all_that_is_known_is_the_context.ensures.page profile (before ++ x) addr
+          ∙ c.pieces_say_what_the_whole_says.ensures.page profile choice.start before x addr number late known;
+      phases = λ addr number known. c.pieces_say_what_the_whole_says.ensures.phase profile before x addr number known;
       modes = λ addr. (
-        mode_of_whole profile (before ++ ts) addr,
-        c.pieces_say_what_the_whole_says.ensures.mode profile choice.start before ts addr bus (so addr),
-        c.all_that_is_known_is_the_context.ensures.mode profile (before ++ ts) addr,
+        mode_of_whole profile (transactions_of (before ++ x)) addr,
+        c.pieces_say_what_the_whole_says.ensures.mode profile choice.start before x addr bus (so addr) (ok addr),
+        c.all_that_is_known_is_the_context.ensures.mode profile (before ++ x) addr,
       );
-    })
+    })) in
+    spans_said c.objects_are_of_facts.ensures SameTimes choice profile choice.start AllKnown (IsAfter before)
+    (DropsOnOwnPages profile before) stand place there times theirs n spans within (before ++ within)
+    (λ at. inr (told at)) refl
+    (spans_are (DropsOnOwnPages profile before) (λ addr device is. tt) place times choice.ignored within
+    (λ ts addr device is. drops_then_said device (paging device (transactions_of before)) within ts
+    (drops addr device is)) spans)

@@ -6,7 +6,7 @@ use Rattle.pmb_json_objects.specs.Counts.{nothing_counted}
 use Rattle.pmb_unknown_start.specs.declared.start.Start.TheVariants.{AllKnown}
 use Rattle.pmb_fact_stream.specs.Before.{at_first}
 use Rattle.pmb_fact_stream.specs.Choice.{ChoiceData}
-use Rattle.pmb_fact_stream.specs.Spans.{after_spans, event_place, event_time, transactions_in}
+use Rattle.pmb_fact_stream.specs.Spans.{after_spans, event_place, event_time, past_in}
 use Rattle.pmb_fact_stream.specs.declared.telling.Telling.TheVariants.{Objects}
 use Rattle.pmb_telling.specs.Text.{FactsFrom}
 use Rattle.pmb_json.specs.Cut.{AreFactsOf, said_in}
@@ -42,7 +42,7 @@ returns-clause-said c ignored profile after front back firsts others whole bus p
     pieces.first.from_first own in
     -- those of the whole are these, as it has them, and others
     let both = cut ignored OtherTimes profile laws front first SayTheSame
-    (same_across ignored OtherTimes (length events) (transactions_in first.spans)) (λ back k. inl refl) after
+    (same_across ignored OtherTimes (length events) (past_in first.spans)) (λ back k. inl refl) after
     pieces.second.bad back others pieces.second.counts pieces.second.from_first in
     let there = firsts_in ignored first.spans both.text in
     let whole_is = c.one_list_of_facts.ensures ignored profile after (front ++ back) pieces.both.bad both.bad whole

@@ -1,26 +1,40 @@
 -- Both clauses by `cut`, which is told of the times of the rest what each clause says of them.
-use Rattle.std.proofs.Common.{◌≡◌, ◌≢◌, ℕ, ◌+◌, inl, inr, List, ◌++◌, length, refl, subst, ◌∙◌}
+use Rattle.std.proofs.Common.{◌≡◌, ◌≢◌, ℕ, ◌+◌, inl, inr, List, ◌++◌, Option, length, refl, subst, sym, ◌∙◌}
 use Rattle.pmb_command.specs.Bus.{IsBus}
 use Rattle.pmb_command.specs.Parts.{DeviceParts}
 use Rattle.pmb_facts.specs.Fact.{FactData}
 use Rattle.pmb_unknown_start.specs.declared.start.Start.TheVariants.{AllKnown}
-use Rattle.pmb_note.specs.Paging.{mode as mode_of_whole}
-use Rattle.pmb_transaction.specs.Transaction.{TransactionData}
+use Rattle.pmb_unknown_start.specs.Past.{PastData, transactions_of}
+use Rattle.pmb_unknown_start.proofs.Drops.{none_dropped}
+use Rattle.pmb_note.specs.Paging.{mode as mode_of_whole, paging}
 use Rattle.pmb_scan.specs.declared.after_bad_token.AfterBadToken.{AfterBadToken}
+use Rattle.pmb_scan.specs.declared.after_bad_token.AfterBadToken.TheVariants.{End, Continue}
 use Rattle.pmb_json_objects.specs.Counts.{CountsData}
 use Rattle.pmb_fact_stream.specs.Before.{at_first}
 use Rattle.pmb_fact_stream.specs.Choice.{ChoiceData}
-use Rattle.pmb_fact_stream.specs.Spans.{transactions_in}
+use Rattle.pmb_fact_stream.specs.Spans.{past_in}
 use Rattle.pmb_times.specs.Times.{time_at}
 use Rattle.pmb_json.specs.Objects.{objects_of}
-use Rattle.pmb_json.specs.Pieces.{CanBeCutBehind, EachSaysNoMore, OtherTimes, SameTimes, TellsNoMore, Timing, all_known}
+use Rattle.pmb_json.specs.Pieces.{AllDropsOnOwnPages, CanBeCutBehind, DropsOnOwnPages, EachSaysNoMore, OtherTimes}
+use Rattle.pmb_json.specs.Pieces.{SameTimes, TellsNoMore, Timing, all_known}
 use Rattle.pmb_telling.specs.Text.{BadLine, FactsFrom}
 use Rattle.pmb_json.proofs.Cut.{CutLaws, FirstPiece, cut, firsts_in}
-use Rattle.pmb_json.proofs.NoMore.{no_more_across}
+use Rattle.pmb_json.proofs.Dropped.{ended_text_is}
+use Rattle.pmb_json.proofs.NoMore.{IsAfter, NoMoreIfOk, no_more_across, stand_after}
 use Rattle.pmb_json.proofs.PieceMembers.{Tells}
 use Rattle.pmb_json.proofs.PieceTimes.{as_many_words}
-use Rattle.pmb_json.proofs.Pieces.{Agree, FactsSayNoMore}
+use Rattle.pmb_json.proofs.Pieces.{Agree, StandBeside}
 use Rattle.pmb_json.proofs.laws.texts_of_pieces_say_no_more.Goals as goal
+
+-- Where reading ends at the first bad line, no line before a fact was dropped.
+all_drops : (ignored : Option (List ℕ)) (profile : List DeviceParts) (after : AfterBadToken) (before : List PastData)
+    (back : List ℕ) (bad : List BadLine) (facts : List FactData) (x : CountsData)
+    → FactsFrom ignored profile after at_first back bad facts x
+    → (after ≡ Continue → AllDropsOnOwnPages profile before facts) → AllDropsOnOwnPages profile before facts
+all_drops ignored profile End before back bad facts x rest drops =
+    ended_text_is (DropsOnOwnPages profile before) (λ addr device is. tt) ignored profile
+    (λ ts addr device is. none_dropped device (paging device (transactions_of before)) ts) back bad facts x rest
+all_drops ignored profile Continue before back bad facts x rest drops = drops refl
 
 pub returns : goal.returns
 returns c =
@@ -30,22 +44,25 @@ returns c =
     → ((rest : List ℕ) (k : ℕ) → Tells timing (time_at rest k) (time_at (front ++ rest) (length first.events + k)))
     → FactsFrom choice.ignored profile after at_first back bad facts x
     → FactsFrom choice.ignored profile after at_first (front ++ back) lines whole y
+    → (after ≡ Continue → AllDropsOnOwnPages profile (past_in first.spans) facts)
     → (firsts : List FactData) × (others : List FactData) × (whole ≡ firsts ++ others)
     × EachSaysNoMore timing (objects_of choice profile facts) (objects_of (all_known choice) profile others) =
-    λ timing choice profile after front back bad lines facts whole x y bus late first tells rest all.
+    λ timing choice profile after front back bad lines facts whole x y bus late first tells rest all drops.
     let start = choice.start in
-    let before = transactions_in first.spans in
-    let agree : (ts : List TransactionData) → Agree profile start AllKnown ts (before ++ ts) =
-    λ (ts : List TransactionData). record {
-      pages = λ addr number is. c.all_that_is_known_is_the_context.ensures.page profile (before ++ ts) addr
-          ∙ c.pieces_say_what_the_whole_says.ensures.page profile start before ts addr number late is;
-      phases = λ addr number is. c.pieces_say_what_the_whole_says.ensures.phase profile before ts addr number is;
+    let before = past_in first.spans in
+    let stand : StandBeside profile start AllKnown (IsAfter before) (DropsOnOwnPages profile before) =
+    stand_after profile start before (DropsOnOwnPages profile before) (λ x y is ok.
+    subst (λ (past : List PastData). Agree profile start AllKnown x past) (sym is)
+    (record {
+      pages = λ addr number known. c.all_that_is_known_is_the_context.ensures.page profile (before ++ x) addr
+          ∙ c.pieces_say_what_the_whole_says.ensures.page profile start before x addr number late known;
+      phases = λ addr number known. c.pieces_say_what_the_whole_says.ensures.phase profile before x addr number known;
       modes = λ addr. (
-        mode_of_whole profile (before ++ ts) addr,
-        c.pieces_say_what_the_whole_says.ensures.mode profile start before ts addr bus (first.told addr),
-        c.all_that_is_known_is_the_context.ensures.mode profile (before ++ ts) addr,
+        mode_of_whole profile (transactions_of (before ++ x)) addr,
+        c.pieces_say_what_the_whole_says.ensures.mode profile start before x addr bus (first.told addr) (ok addr),
+        c.all_that_is_known_is_the_context.ensures.mode profile (before ++ x) addr,
       );
-    } in
+    })) in
     let piece : FirstPiece profile front = record {
       cut = record {
         events = first.events;
@@ -64,20 +81,24 @@ returns c =
       whole = c.spans_may_be_cut.ensures.whole profile;
     } in
     let both = cut choice.ignored timing profile laws front piece
-    (FactsSayNoMore timing profile choice (all_known choice))
-    (no_more_across c.objects_are_of_facts.ensures timing choice profile (length first.events) before agree) tells after
-    bad back facts x rest in
+    (NoMoreIfOk timing choice profile (DropsOnOwnPages profile before))
+    (no_more_across timing choice profile (DropsOnOwnPages profile before) c.objects_are_of_facts.ensures
+    (length first.events) before stand) tells after bad back facts x rest in
     let firsts = firsts_in choice.ignored first.spans both.text in
     let same = c.one_list_of_facts.ensures choice.ignored profile after (front ++ back) lines both.bad whole
-    (firsts ++ both.others) y both.counts bus all both.from_first in
-    (firsts, both.others, same.0, both.beside) in
+    (firsts ++ both.others) y both.counts bus all both.from_first in (
+      firsts,
+      both.others,
+      same.0,
+      both.beside (all_drops choice.ignored profile after before back bad facts x rest drops),
+    ) in
     record {
-      values = λ choice profile after front back bad lines facts whole x y bus late first rest all.
+      values = λ choice profile after front back bad lines facts whole x y bus late first rest all drops.
           said OtherTimes choice profile after front back bad lines facts whole x y bus late first (λ rest k. inl refl)
-          rest all;
-      times = λ choice profile after front back bad lines facts whole x y bus late first line rest all.
+          rest all drops;
+      times = λ choice profile after front back bad lines facts whole x y bus late first line rest all drops.
           said SameTimes choice profile after front back bad lines facts whole x y bus late first
           (λ rest k. inr (subst (λ (n : ℕ). TellsNoMore (time_at rest k) (time_at (front ++ rest) (n + k)))
           (as_many_words front first.events first.spells) (c.times_of_a_piece.ensures front rest k line)))
-          rest all;
+          rest all drops;
     }

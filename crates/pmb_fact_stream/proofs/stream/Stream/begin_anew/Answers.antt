@@ -1,15 +1,16 @@
 use Rattle.std.proofs.Common.{refl}
+use Rattle.pmb_fact_stream.specs.Before.{drop_line}
 use Rattle.pmb_fact_stream.proofs.Standing.{begins_so}
 use Rattle.pmb_fact_stream.proofs.stream.Stream.begin_anew.Goals as goal
 
 pub returns-clause-begins : goal.returns-clause-begins
 returns-clause-begins c b knows between =
     let known = c.clear.ensures.knows b knows in
-    begins_so b _ between (record {
+    begins_so (drop_line b) _ between (record {
       places = known.places;
       word = known.word;
       count = known.count;
-      late = known.late;
+      late = c.drop_line.ensures _ _ b.past known.late;
       counts = known.counts;
       tally = known.tally;
     }) (record {

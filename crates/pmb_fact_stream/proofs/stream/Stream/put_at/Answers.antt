@@ -13,8 +13,8 @@ pub returns-in_default-clause-puts : goal.returns-in_default-clause-puts
 returns-in_default-clause-puts g c some what known stands =
     let stream = c.args.self.now in
     puts_as g.K.Keeper.Keeps stream _ _ (λ b. [])
-    (λ b. kept_at (before_fact b.ts what) (stream_time stream) c.args.index stream.begun.items what) _ _ _ _
-    (λ b knows. ap (map (kept_fact (before_fact b.ts what) (stream_time stream) what)) (sym c.in_default.ensures))
+    (λ b. kept_at (before_fact b.past what) (stream_time stream) c.args.index stream.begun.items what) _ _ _ _
+    (λ b knows. ap (map (kept_fact (before_fact b.past what) (stream_time stream) what)) (sym c.in_default.ensures))
     (puts_none g.K.Keeper.Keeps stream _ _ _)
 
 pub returns-clause-puts : goal.returns-clause-puts
@@ -23,7 +23,7 @@ returns-clause-puts g c some what known stands =
     on_ok_weaker c.put_fact.result (λ puts.
     puts_as g.K.Keeper.Keeps stream _ _
     (λ b. fact_seen (stream_seen stream b) (head_of c.head-head.result) what ∷ [])
-    (λ b. kept_at (before_fact b.ts what) (stream_time stream) c.args.index stream.begun.items what) _ _ _ _
+    (λ b. kept_at (before_fact b.past what) (stream_time stream) c.args.index stream.begun.items what) _ _ _ _
     (λ b knows. ap (λ (head : Head). fact_seen (stream_seen stream b) head what ∷ []) c.head-head.ensures
-    ∙ ap (map (kept_fact (before_fact b.ts what) (stream_time stream) what)) (sym c.in-Some.ensures)) puts)
+    ∙ ap (map (kept_fact (before_fact b.past what) (stream_time stream) what)) (sym c.in-Some.ensures)) puts)
     (c.put_fact.ensures.puts some what known stands)

@@ -110,7 +110,7 @@ returns-in_ok-put_refusal-in-Some-clause-puts g c b reached stands spells end ou
     let viable = subst (λ p. Viable p front) stands.profile inside.2.viable in
     let first = c.in_ok-put_refusal-in-Some.ensures.puts there front stands.knows viable said in
     let time = stream_time stream in
-    let facts = refusal_fact there.ts (head_as (capped there.n) c.end.result time) front None refusal.reason
+    let facts = refusal_fact there.past (head_as (capped there.n) c.end.result time) front None refusal.reason
     refusal.expected ∷ [] in
     let timed = time_at_end b stream reached n front stands standing inside.2.some in
     let counts = after_refusal there.counts (said_device front) in

@@ -15,16 +15,16 @@ returns-in_ok-put_parts-in-Refused-clause-puts g c some known =
     let stream = c.args.self.now in
     let refused = c.in-Refused in
     on_ok_weaker c.put_at-in-Refused.result (λ puts.
-    puts_as g.K.Keeper.Keeps stream _ _ _ (λ b. kept_facts b.ts (stream_time stream) stream.begun.items
+    puts_as g.K.Keeper.Keeps stream _ _ _ (λ b. kept_facts b.past (stream_time stream) stream.begun.items
     (transaction_data c.args.transaction.now)) _ _ _ _
     (λ b knows.
-    refused_kept b.ts (stream_time stream) stream.begun.items refused.parts.items
+    refused_kept b.past (stream_time stream) stream.begun.items refused.parts.items
     c.as_slice-in-Refused.result.now
     refused.sent.items c.as_slice-in-Refused-2.result.now c.len-in-Refused.result c.len-in-Refused-2.result
     refused.addr refused.at_read
     c.as_slice-in-Refused.ensures.value c.len-in-Refused.ensures.value c.len-in-Refused-2.ensures.value
     c.as_slice-in-Refused-2.ensures.value
-    ∙ ap (λ (t : Transaction). kept_facts b.ts (stream_time stream) stream.begun.items (transaction_data t))
+    ∙ ap (λ (t : Transaction). kept_facts b.past (stream_time stream) stream.begun.items (transaction_data t))
     (sym refused.is))
     (puts_both g.K.Keeper.Keeps stream _ _ _ _ _ _ _ _ _ _ _ (c.in_ok-put_parts-in-Refused.ensures.puts some known)
     puts))
@@ -36,9 +36,9 @@ returns-in-Alert-clause-puts g c some known =
     let stream = c.args.self.now in
     let alert = c.in-Alert in
     on_ok_weaker c.put_at-in-Alert.result (λ puts.
-    puts_as g.K.Keeper.Keeps stream _ _ _ (λ b. kept_facts b.ts (stream_time stream) stream.begun.items
+    puts_as g.K.Keeper.Keeps stream _ _ _ (λ b. kept_facts b.past (stream_time stream) stream.begun.items
     (transaction_data c.args.transaction.now)) _ _ _ _
-    (λ b knows. ap (λ (t : Transaction). kept_facts b.ts (stream_time stream) stream.begun.items (transaction_data t))
+    (λ b knows. ap (λ (t : Transaction). kept_facts b.past (stream_time stream) stream.begun.items (transaction_data t))
     (sym alert.is)) puts)
     (c.put_at-in-Alert.ensures.puts some (fact.Alert (record { byte = alert.byte; pec = alert.pec })) known refl)
 
@@ -46,9 +46,9 @@ pub returns-in-NoAlert-clause-puts : goal.returns-in-NoAlert-clause-puts
 returns-in-NoAlert-clause-puts g c some known =
     let stream = c.args.self.now in
     on_ok_weaker c.put_at-in-NoAlert.result (λ puts.
-    puts_as g.K.Keeper.Keeps stream _ _ _ (λ b. kept_facts b.ts (stream_time stream) stream.begun.items
+    puts_as g.K.Keeper.Keeps stream _ _ _ (λ b. kept_facts b.past (stream_time stream) stream.begun.items
     (transaction_data c.args.transaction.now)) _ _ _ _
-    (λ b knows. ap (λ (t : Transaction). kept_facts b.ts (stream_time stream) stream.begun.items (transaction_data t))
+    (λ b knows. ap (λ (t : Transaction). kept_facts b.past (stream_time stream) stream.begun.items (transaction_data t))
     (sym c.in-NoAlert.is)) puts)
     (c.put_at-in-NoAlert.ensures.puts some fact.NoAlert known refl)
 
@@ -57,12 +57,12 @@ returns-in-Read-clause-puts g c some known =
     let stream = c.args.self.now in
     let read = c.in-Read in
     on_ok_weaker c.put_at.result (λ puts.
-    puts_as g.K.Keeper.Keeps stream _ _ _ (λ b. kept_facts b.ts (stream_time stream) stream.begun.items
+    puts_as g.K.Keeper.Keeps stream _ _ _ (λ b. kept_facts b.past (stream_time stream) stream.begun.items
     (transaction_data c.args.transaction.now)) _ _ _ _
-    (λ b knows. ap (λ (bytes : List ℕ). kept_facts b.ts (stream_time stream) stream.begun.items
+    (λ b knows. ap (λ (bytes : List ℕ). kept_facts b.past (stream_time stream) stream.begun.items
     (Read (record { addr = read.addr; code = read.code; reply = bytes; pec = read.pec })))
     c.as_slice-in-Read.ensures.value
-    ∙ ap (λ (t : Transaction). kept_facts b.ts (stream_time stream) stream.begun.items
+    ∙ ap (λ (t : Transaction). kept_facts b.past (stream_time stream) stream.begun.items
     (transaction_data t)) (sym read.is)) puts)
     (c.put_at.ensures.puts some (fact.Read (record {
       addr = read.addr;
@@ -77,9 +77,9 @@ returns-in-Call-clause-puts g c some known =
     let stream = c.args.self.now in
     let call = c.in-Call in
     on_ok_weaker c.put_at-in-Call.result (λ puts.
-    puts_as g.K.Keeper.Keeps stream _ _ _ (λ b. kept_facts b.ts (stream_time stream) stream.begun.items
+    puts_as g.K.Keeper.Keeps stream _ _ _ (λ b. kept_facts b.past (stream_time stream) stream.begun.items
     (transaction_data c.args.transaction.now)) _ _ _ _
-    (λ b knows. ap (λ (sent : List ℕ). kept_facts b.ts (stream_time stream) stream.begun.items
+    (λ b knows. ap (λ (sent : List ℕ). kept_facts b.past (stream_time stream) stream.begun.items
     (Call (record {
       addr = call.addr;
       code = call.code;
@@ -88,10 +88,10 @@ returns-in-Call-clause-puts g c some known =
       pec =
           call.pec;
     }))) c.as_slice-in-Call.ensures.value
-    ∙ ap (λ (reply : List ℕ). kept_facts b.ts (stream_time stream) stream.begun.items
+    ∙ ap (λ (reply : List ℕ). kept_facts b.past (stream_time stream) stream.begun.items
     (Call (record { addr = call.addr; code = call.code; bytes = call.bytes.items; reply = reply; pec = call.pec })))
     c.as_slice-in-Call-2.ensures.value
-    ∙ ap (λ (t : Transaction). kept_facts b.ts (stream_time stream) stream.begun.items
+    ∙ ap (λ (t : Transaction). kept_facts b.past (stream_time stream) stream.begun.items
     (transaction_data t)) (sym call.is)) puts)
     (c.put_at-in-Call.ensures.puts some (fact.Call (record {
       addr = call.addr;

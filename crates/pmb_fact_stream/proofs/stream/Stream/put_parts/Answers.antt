@@ -22,30 +22,30 @@ loop-index-preserved g c = record {
       let part = c.index-parts-index.result in
       let number : 1 + i ≡ i + 1 = omega arith in
       puts_as g.K.Keeper.Keeps stream _ _
-      (λ b. kept_writes b.ts (stream_time stream) 1 c.args.count (take i stream.begun.items)
+      (λ b. kept_writes b.past (stream_time stream) 1 c.args.count (take i stream.begun.items)
       (take i parts)
-      ++ kept_writes b.ts (stream_time stream) (i + 1) c.args.count
+      ++ kept_writes b.past (stream_time stream) (i + 1) c.args.count
       (take 1 (drop i stream.begun.items))
       (part_data part ∷ []))
-      (λ b. kept_writes b.ts (stream_time stream) 1 c.args.count (take (i + 1) stream.begun.items)
+      (λ b. kept_writes b.past (stream_time stream) 1 c.args.count (take (i + 1) stream.begun.items)
       (take (i + 1) parts)) _
       _ _ _
-      (λ b knows. sym (ap (λ k. kept_writes b.ts (stream_time stream) 1 c.args.count
+      (λ b knows. sym (ap (λ k. kept_writes b.past (stream_time stream) 1 c.args.count
       (take k stream.begun.items) (take k parts))
       (add-one i)
-      ∙ one_more_write b.ts (stream_time stream) 1 c.args.count i stream.begun.items parts
+      ∙ one_more_write b.past (stream_time stream) 1 c.args.count i stream.begun.items parts
       (part_data part)
       (omega (arith, c.loop-index-test.true, length-map c.args.parts.now part_data))
       (got part_data c.args.parts.now i part c.index-parts-index.is)
-      ∙ ap (λ k. kept_writes b.ts (stream_time stream) 1 c.args.count (take i stream.begun.items)
+      ∙ ap (λ k. kept_writes b.past (stream_time stream) 1 c.args.count (take i stream.begun.items)
       (take i parts)
-      ++ kept_writes b.ts (stream_time stream) k c.args.count (take 1 (drop i stream.begun.items))
+      ++ kept_writes b.past (stream_time stream) k c.args.count (take 1 (drop i stream.begun.items))
       (part_data part ∷ []))
       number))
       (puts_both g.K.Keeper.Keeps stream _ _ _ _ _ _ _ _ _ _ _ (c.loop-index.invariant.puts some known)
-      (puts_as g.K.Keeper.Keeps stream _ _ _ (λ b. kept_writes b.ts (stream_time stream) (i + 1) c.args.count
+      (puts_as g.K.Keeper.Keeps stream _ _ _ (λ b. kept_writes b.past (stream_time stream) (i + 1) c.args.count
       (take 1 (drop i stream.begun.items)) (part_data part ∷ [])) _ _ _ _
-      (λ b knows. one_write b.ts (stream_time stream) (i + 1) c.args.count i stream.begun.items (part_data part))
+      (λ b knows. one_write b.past (stream_time stream) (i + 1) c.args.count i stream.begun.items (part_data part))
       (c.in_ok-put_at.ensures.puts some (fact.Write (i + 1) c.args.count (part_data part)) known refl)));
 }
 
@@ -53,11 +53,11 @@ pub returns-clause-puts : goal.returns-clause-puts
 returns-clause-puts g c some known =
     let stream = c.args.self.now in
     let parts = map part_data c.args.parts.now in
-    puts_as g.K.Keeper.Keeps stream _ _ (λ b. kept_writes b.ts (stream_time stream) 1 c.args.count
+    puts_as g.K.Keeper.Keeps stream _ _ (λ b. kept_writes b.past (stream_time stream) 1 c.args.count
     (take c.loop-index.index stream.begun.items)
     (take c.loop-index.index parts))
-    (λ b. kept_writes b.ts (stream_time stream) 1 c.args.count stream.begun.items parts) _ _ _ _
-    (λ b knows. all_writes b.ts (stream_time stream) 1 c.args.count c.loop-index.index stream.begun.items
+    (λ b. kept_writes b.past (stream_time stream) 1 c.args.count stream.begun.items parts) _ _ _ _
+    (λ b knows. all_writes b.past (stream_time stream) 1 c.args.count c.loop-index.index stream.begun.items
     parts
     (omega (arith, c.loop-index-test.false, length-map c.args.parts.now part_data)))
     (c.loop-index.invariant.puts some known)

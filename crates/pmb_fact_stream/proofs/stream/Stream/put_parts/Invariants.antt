@@ -11,7 +11,7 @@ abbrev pub invariant-loop-index : goal.invariant-loop-index
 invariant-loop-index g l = record {
   failures : (g.W.Sink.told l.writer).failures ≡ (g.W.Sink.told l.fn.writer).failures;
   puts : (some : Before) → StreamKnows some l.self
-      → PutsFacts g.K.Keeper.Keeps l.self l.fn.keeper l.keeper (λ b. kept_writes b.ts (stream_time l.self) 1 l.count
+      → PutsFacts g.K.Keeper.Keeps l.self l.fn.keeper l.keeper (λ b. kept_writes b.past (stream_time l.self) 1 l.count
       (take l.index l.self.begun.items)
       (take l.index (map part_data l.parts)))
       (g.W.Sink.told l.fn.writer).held l.fn.waiting.items (g.W.Sink.told l.writer).held l.waiting.items;

@@ -14,7 +14,7 @@ pub returns-clause-puts : goal.returns-clause-puts
 returns-clause-puts g c some front known viable said =
     let stream = c.args.self.now in
     let refusal = c.args.refusal in
-    let one = λ (b : Before) (head : Head). refusal_fact b.ts head front c.args.event refusal.reason refusal.expected
+    let one = λ (b : Before) (head : Head). refusal_fact b.past head front c.args.event refusal.reason refusal.expected
     ∷ [] in
     on_ok_weaker c.put_fact.result (λ puts.
     puts_as g.K.Keeper.Keeps stream _ _ (λ b. one b (head_of c.head_at-head.result))

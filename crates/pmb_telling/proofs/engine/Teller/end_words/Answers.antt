@@ -19,7 +19,7 @@ use Rattle.pmb_fact_stream.specs.Lines.{fact_lines, last_lines}
 use Rattle.pmb_scan.specs.Scan.{TakesEnd, end_spans}
 use Rattle.pmb_spans.specs.Spans.{moved_spans}
 use Rattle.pmb_fact_stream.specs.Choice.{ChoiceData}
-use Rattle.pmb_fact_stream.specs.Spans.{CountsTally, after_spans, transactions_in}
+use Rattle.pmb_fact_stream.specs.Spans.{CountsTally, after_spans, past_in}
 use Rattle.pmb_fact_stream.specs.Before.{with_reached}
 use Rattle.pmb_fact_stream.specs.Others.{is_untold}
 use Rattle.pmb_fact_stream.specs.Stream.{StreamKnows, StreamStands, kept_by, stream_profile, stream_tally, stream_time}
@@ -58,7 +58,7 @@ returns-in-None-clause-ends g c start bytes text stands =
     let tells = tells_open others choice.ignored there c.truncation-end.result none end in
     let counts = after_spans choice.ignored b.counts (there.spans ++ last) in
     let lines = λ (k : ChoiceData) (p : List DeviceParts).
-    fact_lines k p (text_facts k.ignored b there.text (b.ts ++ transactions_in there.spans)
+    fact_lines k p (text_facts k.ignored b there.text (b.past ++ past_in there.spans)
     (moved_spans b.n (filter (is_untold k.ignored) last)))
     ++ last_lines k p (after_spans k.ignored b.counts (there.spans ++ last)) in
     let said = lines choice profile in
@@ -69,7 +69,7 @@ returns-in-None-clause-ends g c start bytes text stands =
     let so_told = told_by g.K.Keeper.Keeps choice profile behind.keeper b old.scan old.kept behind.used behind.put words
     there (behind.put ++ taken.text) kept told [] in
     let At = KeptIn g.K.Keeper.Keeps choice profile in
-    let left = λ (k : ChoiceData). text_facts k.ignored b there.text (b.ts ++ transactions_in there.spans)
+    let left = λ (k : ChoiceData). text_facts k.ignored b there.text (b.past ++ past_in there.spans)
     (moved_spans b.n (filter (is_untold k.ignored) last)) in
     on_ok_all c.put_end.result (λ put tallied ended. record {
       text = taken.text ++ said;

@@ -1,0 +1,225 @@
+-- What is known in a piece of a capture after lines that were dropped is so on the bus, whatever these lines
+-- said: of PAGE and VOUT_MODE since it is certain, and of PHASE since the last one was told after them. For the
+-- law `damaged_pieces_say_no_more`. What was told on the bus can be reached from what the piece has (`reach`),
+-- and the piece has its end (`told_end`).
+use Rattle.std.proofs.Common.{◌≡◌, ℕ, Bool, true, false, cond, Option, Some, None, List, [], ◌∷◌, ◌++◌, flat_map, fold, map}
+use Rattle.std.proofs.Common.{refl, sym, ap, ◌∙◌, subst, append_assoc, append-nil}
+use Rattle.std.specs.Option.{is_some, option_and_then, option_map, option_or}
+use Rattle.std.proofs.lemmas.Grind.{flat_map-append}
+use Rattle.std.proofs.lemmas.List.Sums.{fold-append}
+use Rattle.std.proofs.lemmas.Option.{none-some}
+use Rattle.pmb_command.specs.Parts.{DeviceParts, device_with}
+use Rattle.pmb_note.specs.Paging.{PagingData, RegisterTold, after_told, after_transaction, first_paging, paging}
+use Rattle.pmb_note.specs.Paging.{selected_mode, told, told_by_part}
+use Rattle.pmb_note.specs.Paging.{mode as mode_of_whole, page as page_of_whole}
+use Rattle.pmb_transaction.specs.Transaction.{TransactionData, Write, Read, Call, Refused, Alert, NoAlert}
+use Rattle.pmb_unknown_start.specs.Certain.{AgreesWith, CanBegin, CanFollow, CanFollowDrop, CanFollowPast}
+use Rattle.pmb_unknown_start.specs.Certain.{CanFollowWrites, CanReach, IsCertainMode, IsCertainPage, MayHave}
+use Rattle.pmb_unknown_start.specs.Known.{known, known_mode, mode, mode_of, page}
+use Rattle.pmb_unknown_start.specs.Past.{PastData, Said, Dropped}
+use Rattle.pmb_unknown_start.specs.Phase.{last_phase, phase, phase_of, told_phase, told_since, told_then}
+use Rattle.pmb_unknown_start.specs.Restores.{untells}
+use Rattle.pmb_unknown_start.specs.declared.mode.KnownMode.{KnownMode}
+use Rattle.pmb_unknown_start.specs.declared.mode.KnownMode.TheVariants.{Known, Unknown, NoPage}
+use Rattle.pmb_unknown_start.specs.declared.start.Start.{Start}
+use Rattle.pmb_unknown_start.specs.declared.start.Start.TheVariants.{AllKnown, Late, LateFixedMode}
+use Rattle.pmb_json.specs.Mended.{CanBeMended, IsMended}
+
+-- ---- a transaction more
+
+pub mended_more : (start : Start) (device : DeviceParts) (before : List TransactionData) (past : List PastData)
+    (ts : List TransactionData) (t : TransactionData) → IsMended start device before past ts
+    → IsMended start device before (past ++ Said t ∷ []) (ts ++ t ∷ [])
+mended_more start device before [] ts t is = ([], ap (λ (l : List TransactionData). l ++ t ∷ []) is, refl)
+mended_more start device before (Said u ∷ past) ts t is = (
+  is.0 ++ t ∷ [],
+  ap (λ (l : List TransactionData). l ++ t ∷ []) is.1,
+  mended_more start device (before ++ u ∷ []) past is.0 t is.2,
+)
+mended_more start device before (Dropped ∷ past) ts t is = (
+  is.0,
+  is.1 ++ t ∷ [],
+  ap (λ (l : List TransactionData). l ++ t ∷ []) is.2 ∙ append_assoc is.0 is.1 (t ∷ []),
+  is.3,
+  mended_more start device (before ++ is.0) past is.1 t is.4,
+)
+
+-- ---- PAGE and VOUT_MODE
+
+module _ (device : DeviceParts) where
+  as_it_is : (b : Bool) (p : PagingData) → MayHave b p p
+  as_it_is true p = (refl, refl)
+  as_it_is false p = refl
+
+  writes_follow : (all : List RegisterTold) (p : PagingData)
+      → CanFollowWrites device p all (fold (after_told device) p all)
+  writes_follow [] p = refl
+  writes_follow (t ∷ all) p = (
+    after_told device p t,
+    as_it_is (untells device.address t) (after_told device p t),
+    writes_follow all (after_told device p t),
+  )
+
+  one_follows : (t : TransactionData) (p : PagingData) → CanFollow device p t (after_transaction device p t)
+  one_follows (Write parts) p = writes_follow (map told_by_part parts) p
+  one_follows (Read t) p = refl
+  one_follows (Call t) p = refl
+  one_follows (Refused t) p = writes_follow (map told_by_part t.parts) p
+  one_follows (Alert t) p = refl
+  one_follows NoAlert p = refl
+
+  said_follows : (start : Start) (t : TransactionData) (p : PagingData)
+      → CanFollowPast start device p (Said t) (after_transaction device p t)
+  said_follows AllKnown t p = refl
+  said_follows Late t p = one_follows t p
+  said_follows LateFixedMode t p = refl
+
+  drop_follows : (start : Start) (p q : PagingData) → CanFollowDrop start device p q
+      → CanFollowPast start device p Dropped q
+  drop_follows AllKnown p q is = is
+  drop_follows Late p q is = is
+  drop_follows LateFixedMode p q is = is
+
+  one_more : (before : List TransactionData) (t : TransactionData)
+      → paging device (before ++ t ∷ []) ≡ after_transaction device (paging device before) t
+  one_more before t = fold-append (after_transaction device) (first_paging device) before (t ∷ [])
+
+  pub reach : (start : Start) (before : List TransactionData) (past : List PastData) (ts : List TransactionData)
+      → IsMended start device before past ts
+      → CanReach start device (paging device before) past (paging device (before ++ ts))
+  reach start before [] ts is =
+      ap (λ (l : List TransactionData). paging device (before ++ l)) is ∙ ap (paging device) (append-nil before)
+  reach start before (Said t ∷ past) ts is = (
+    paging device (before ++ t ∷ []),
+    subst (λ (r : PagingData). CanFollowPast start device (paging device before) (Said t) r) (sym (one_more before t))
+        (said_follows start t (paging device before)),
+    subst (λ (l : List TransactionData). CanReach start device (paging device (before ++ t ∷ [])) past (paging device l))
+        (append_assoc before (t ∷ []) is.0 ∙ ap (λ (l : List TransactionData). before ++ l) (sym is.1))
+        (reach start (before ++ t ∷ []) past is.0 is.2),
+  )
+  reach start before (Dropped ∷ past) ts is = (
+    paging device (before ++ is.0),
+    drop_follows start (paging device before) (paging device (before ++ is.0)) is.3,
+    subst (λ (l : List TransactionData). CanReach start device (paging device (before ++ is.0)) past (paging device l))
+        (append_assoc before is.0 is.1 ∙ ap (λ (l : List TransactionData). before ++ l) (sym is.2))
+        (reach start (before ++ is.0) past is.1 is.4),
+  )
+
+-- ---- PHASE
+
+-- what is told where nothing was dropped
+told_all : (all : List RegisterTold) (ts : List TransactionData)
+    → fold told_then all (map Said ts) ≡ all ++ flat_map told ts
+told_all all [] = sym (append-nil all)
+told_all all (t ∷ ts) = told_all (all ++ told t) ts ∙ append_assoc all (told t) (flat_map told ts)
+
+-- the piece has the end of what was told on the bus
+told_end : (start : Start) (device : DeviceParts) (before : List TransactionData) (past : List PastData)
+    (ts : List TransactionData) (all : List RegisterTold) → IsMended start device before past ts
+    → (front : List RegisterTold) × (all ++ flat_map told ts ≡ front ++ fold told_then all past)
+told_end start device before [] ts all is =
+    ([], ap (λ (l : List TransactionData). all ++ flat_map told l) is ∙ append-nil all)
+told_end start device before (Said t ∷ past) ts all is =
+    let more = told_end start device (before ++ t ∷ []) past is.0 (all ++ told t) is.2 in (
+      more.0,
+      ap (λ (l : List TransactionData). all ++ flat_map told l) is.1
+          ∙ sym (append_assoc all (told t) (flat_map told is.0))
+          ∙ more.1,
+    )
+told_end start device before (Dropped ∷ past) ts all is =
+    let more = told_end start device (before ++ is.0) past is.1 [] is.4 in
+    let lost = flat_map told is.0 in (
+      (all ++ lost) ++ more.0,
+      ap (λ (l : List TransactionData). all ++ flat_map told l) is.2
+          ∙ ap (λ (l : List RegisterTold). all ++ l) (flat_map-append told is.0 is.1)
+          ∙ sym (append_assoc all lost (flat_map told is.1))
+          ∙ ap (λ (l : List RegisterTold). (all ++ lost) ++ l) more.1
+          ∙ sym (append_assoc (all ++ lost) more.0 (fold told_then [] past)),
+    )
+
+last_of_both : (addr n : ℕ) (front all : List RegisterTold) → last_phase addr all ≡ Some n
+    → last_phase addr (front ++ all) ≡ Some n
+last_of_both addr n [] all is = is
+last_of_both addr n (t ∷ front) all is =
+    ap (λ (o : Option ℕ). option_or o (told_phase addr t)) (last_of_both addr n front all is)
+
+-- ---- the device with an address
+
+module _ (start : Start) (before : List TransactionData) (past : List PastData) (ts : List TransactionData) where
+  abbrev whole : List PastData
+  whole = map Said (before ++ ts)
+
+  last_stays : (device : DeviceParts) → IsMended start device before past ts → (addr n : ℕ)
+      → last_phase addr (told_since past) ≡ Some n → last_phase addr (told_since whole) ≡ Some n
+  last_stays device is addr n last =
+      let end = told_end start device before past ts [] is in
+      ap (last_phase addr)
+      (told_all [] (before ++ ts) ∙ flat_map-append told before ts
+      ∙ ap (λ (l : List RegisterTold). flat_map told before ++ l) end.1)
+      ∙ last_of_both addr n (flat_map told before) (end.0 ++ told_since past)
+      (last_of_both addr n end.0 (told_since past) last)
+
+  phase_if : (has : Bool) (a b : Option ℕ) (n : ℕ) → (a ≡ Some n → b ≡ Some n) → cond has a None ≡ Some n
+      → cond has b None ≡ Some n
+  phase_if true a b n same is = same is
+  phase_if false a b n same is = is
+
+  phase_found : (addr n : ℕ) (found : Option DeviceParts)
+      → ((device : DeviceParts) → found ≡ Some device → IsMended start device before past ts)
+      → option_and_then (phase_of addr past) found ≡ Some n → option_and_then (phase_of addr whole) found ≡ Some n
+  phase_found addr n None mended is = is
+  phase_found addr n (Some device) mended is =
+      phase_if (is_some device.phases) (last_phase addr (told_since past)) (last_phase addr (told_since whole)) n
+      (λ last. last_stays device (mended device refl) addr n last) is
+
+  -- what the law `what_is_known_is_certain` says
+  module _
+      (certain_mode : (device : DeviceParts) (m : ℕ) → known_mode (known start device past) ≡ Known m
+      → IsCertainMode start device past (Some m))
+      (certain_none : (device : DeviceParts) → known_mode (known start device past) ≡ NoPage
+      → IsCertainMode start device past None)
+      (certain_page : (device : DeviceParts) (n : ℕ) → (known start device past).page ≡ Some n
+      → IsCertainPage start device past n)
+    where
+      mode_by : (device : DeviceParts) → CanBegin start device (paging device before)
+          → IsMended start device before past ts → (k : KnownMode) → known_mode (known start device past) ≡ k
+          → AgreesWith k (selected_mode (paging device (before ++ ts)))
+      mode_by device begin is (Known m) known_is =
+          certain_mode device m known_is (paging device before) (paging device (before ++ ts)) begin
+          (reach device start before past ts is)
+      mode_by device begin is Unknown known_is = tt
+      mode_by device begin is NoPage known_is =
+          certain_none device known_is (paging device before) (paging device (before ++ ts)) begin
+          (reach device start before past ts is)
+
+      mode_found : (found : Option DeviceParts)
+          → ((device : DeviceParts) → found ≡ Some device
+          → CanBegin start device (paging device before) × IsMended start device before past ts)
+          → AgreesWith (mode_of (λ device. known start device past) found)
+          (option_and_then (λ device. selected_mode (paging device (before ++ ts))) found)
+      mode_found None can = refl
+      mode_found (Some device) can =
+          mode_by device (can device refl).0 (can device refl).1 (known_mode (known start device past)) refl
+
+      page_found : (n : ℕ) (found : Option DeviceParts)
+          → ((device : DeviceParts) → found ≡ Some device
+          → CanBegin start device (paging device before) × IsMended start device before past ts)
+          → option_and_then (λ device. (known start device past).page) found ≡ Some n
+          → option_map (λ device. (paging device (before ++ ts)).page) found ≡ Some n
+      page_found n None can is = absurd (none-some n is)
+      page_found n (Some device) can is =
+          ap Some (certain_page device n is (paging device before) (paging device (before ++ ts)) (can device refl).0
+          (reach device start before past ts (can device refl).1))
+
+      pub mode_mended : (profile : List DeviceParts) → CanBeMended start profile before past ts → (addr : ℕ)
+          → AgreesWith (mode start profile past addr) (mode_of_whole profile (before ++ ts) addr)
+      mode_mended profile can addr = mode_found (device_with addr profile) (can addr)
+
+      pub page_mended : (profile : List DeviceParts) → CanBeMended start profile before past ts → (addr n : ℕ)
+          → page start profile past addr ≡ Some n → page_of_whole profile (before ++ ts) addr ≡ Some n
+      page_mended profile can addr n is = page_found n (device_with addr profile) (can addr) is
+
+  pub phase_mended : (profile : List DeviceParts) → CanBeMended start profile before past ts → (addr n : ℕ)
+      → phase profile past addr ≡ Some n → phase profile whole addr ≡ Some n
+  phase_mended profile can addr n is =
+      phase_found addr n (device_with addr profile) (λ device found. (can addr device found).1) is
