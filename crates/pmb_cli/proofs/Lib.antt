@@ -7,3 +7,4 @@ pub mod Often
 pub mod Memory
 pub mod Working
 pub mod Unread
+mod JsonText

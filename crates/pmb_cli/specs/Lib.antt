@@ -1,4 +1,5 @@
 pub mod Facts
+pub mod JsonOutput
 pub mod Memory
 pub mod Often
 pub mod ProfileFault

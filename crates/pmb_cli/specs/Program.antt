@@ -4,8 +4,13 @@ use Rattle.pmb_io.specs.Told.{ReaderTold, WriterTold}
 use Rattle.pmb_args.specs.ExitStatus.{EndedWell, Failed, IsTold, Tells}
 use Rattle.pmb_args.specs.declared.exit_status.ExitStatus.{ExitStatus}
 use Rattle.pmb_args.specs.declared.exit_status.ExitStatus.TheVariants.{Done, Refusals, BadArguments, IoFailed, NoMemory}
-use Rattle.pmb_args.specs.Asked.{AskFor, AskForNothing, Asking, HasBadFormat}
+use Rattle.pmb_args.specs.Asked.{AskFor, AskForNothing, Asking, HasBadFormat, Json, Stats, UnderProfile}
+use Rattle.pmb_args.specs.Facts.{FactsWanted}
+use Rattle.pmb_args.specs.Stats.{StatsWanted}
+use Rattle.pmb_args.specs.declared.profile_place.ProfilePlace.{ProfilePlace}
+use Rattle.pmb_args.specs.declared.stats_arguments.StatsForm.TheVariants.{Objects}
 use Rattle.pmb_args.specs.Words.{AreRefused, AskToTell, MayBeRefused, faults_of}
+use Rattle.pmb_cli.specs.JsonOutput.{TellsBytes, WroteJson}
 use Rattle.pmb_cli.specs.Profiles.{HasBadProfile}
 use Rattle.pmb_cli.specs.Statuses.{StatusTells}
 use Rattle.pmb_cli.specs.Tasks.{DidTask, IsUnderFront}
@@ -16,6 +21,12 @@ pub record RanProgram {R W E : Type 0} (reader_told : R → ReaderTold) (out_tol
     (status : ExitStatus) : Type 0 where
   -- What the words ask for was done, if they ask for something: so a bad FORMAT is looked at before anything is read.
   pub did : (asking : Asking) → AskFor words asking → DidTask reader_told out_told err_told sample asking old new status
+  -- What `json` writes is lines of JSON, whatever the profile and the capture, if the reader tells its bytes.
+  pub json : (place : ProfilePlace) (wanted : FactsWanted) → AskFor words (UnderProfile place (Json wanted))
+      → TellsBytes (reader_told old.0) → WroteJson (out_told old.1) (out_told new.1) status
+  -- So is what `stats` writes with `--json`, whatever the reader.
+  pub sums : (place : ProfilePlace) (wanted : StatsWanted) → AskFor words (UnderProfile place (Stats wanted))
+      → wanted.form ≡ Objects → WroteJson (out_told old.1) (out_told new.1) status
   -- The words are looked at first. Where `clap` finds a fault in them, of which a call for help or
   -- the version is one, nothing
   -- is read; with Done some text is on standard output, and the status is never Refusals.

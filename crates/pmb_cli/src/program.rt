@@ -8,9 +8,11 @@ ghost use Rattle.pmb_args.specs.ExitStatus.{IsTold, OfCode};
 ghost use Rattle.std.specs.declared.io.ErrorKind.TheVariants.{OutOfMemory};
 
 use crate::tasks::run_task;
+use pmb_accepted::laws::json_is_lines;
 use pmb_args::laws::one_asking;
 use pmb_args::{no_words as without_words, parse_command};
 use pmb_io::{Sink, Source};
+use pmb_stats_json::laws::sums_are_lines;
 use pmb_table::SAMPLE;
 use std::alloc::Global;
 use std::convert::AsStr;
@@ -41,6 +43,9 @@ pub fn tool<S: AsStr, R: Source, W: Sink, E: Sink>(
 {
     // Words ask for one thing at most.
     one_asking();
+    // Under whatever a text says as a profile, `json` and `stats --json` write lines of JSON.
+    json_is_lines();
+    sums_are_lines();
     match parse_command(alloc, words, out, err) {
         Ok(task) => run_task(task, alloc, reader, out, err).code(),
         Err(status) => status.code(),

@@ -20,6 +20,8 @@ mod profiles;
 #[cfg(test)]
 mod program;
 #[cfg(test)]
+mod sizes;
+#[cfg(test)]
 mod stats;
 #[cfg(test)]
 mod whole;

@@ -1,9 +1,10 @@
 use Rattle.std.proofs.Common.{inl, inr, map, refl, subst}
 use Rattle.pmb_table.specs.declared.sample.TheConstants.{SAMPLE}
-use Rattle.pmb_args.specs.Asked.{Asking, asking_of}
+use Rattle.pmb_args.specs.Asked.{Asking, AskFor, Json, Stats, UnderProfile, asking_of}
 use Rattle.pmb_cli.specs.Statuses.{StatusTells}
 use Rattle.pmb_cli.specs.Tasks.{DidTask}
 use Rattle.pmb_cli.proofs.Codes.{code_within}
+use Rattle.pmb_cli.proofs.JsonText.{WritesJson, json_lines, sums_lines}
 use Rattle.pmb_cli.proofs.Memory.{unread}
 use Rattle.pmb_cli.proofs.Often.{none_in_all}
 use Rattle.pmb_cli.proofs.Statuses.{does_none, no_memory_is_not_bad}
@@ -24,14 +25,28 @@ returns-in-Ok-clause-ran g c =
     c.run_task.result) c.in-Ok.ensures.ok_quiet.0
     (subst (λ (err : g.row.E.Denot). DidTask g.R.Source.told g.W.Sink.told g.E.Sink.told SAMPLE.now asking
     (c.args.reader.now, c.parse_command.new.out, err) (c.run_task.new.reader, c.run_task.new.out, c.run_task.new.err)
-    c.run_task.result) c.in-Ok.ensures.ok_quiet.1 c.run_task.ensures) in (
+    c.run_task.result) c.in-Ok.ensures.ok_quiet.1 c.run_task.ensures) in
+    let asked : (other : Asking) → AskFor words other
+    → DidTask g.R.Source.told g.W.Sink.told g.E.Sink.told SAMPLE.now other
+    (c.args.reader.now, c.args.out.now, c.args.err.now) (c.run_task.new.reader, c.run_task.new.out, c.run_task.new.err)
+    c.run_task.result =
+    λ other also. subst (λ (a : Asking). DidTask g.R.Source.told g.W.Sink.told g.E.Sink.told SAMPLE.now a
+    (c.args.reader.now, c.args.out.now, c.args.err.now) (c.run_task.new.reader, c.run_task.new.out, c.run_task.new.err)
+    c.run_task.result) (one.one words asking other ask also) did in
+    let writes : WritesJson =
+    record { whole = c.json_is_lines.ensures.whole; so_far = c.json_is_lines.ensures.so_far } in (
       c.run_task.result,
       c.code.ensures,
       record {
-        did = λ other also. subst (λ (a : Asking). DidTask g.R.Source.told g.W.Sink.told g.E.Sink.told SAMPLE.now a
-            (c.args.reader.now, c.args.out.now, c.args.err.now)
-            (c.run_task.new.reader, c.run_task.new.out, c.run_task.new.err) c.run_task.result)
-            (one.one words asking other ask also) did;
+        did = asked;
+        json = λ place wanted also tells. json_lines g.R.Source.told g.W.Sink.told g.E.Sink.told SAMPLE.now writes place
+            wanted (c.args.reader.now, c.args.out.now, c.args.err.now)
+            (c.run_task.new.reader, c.run_task.new.out, c.run_task.new.err) tells c.run_task.result
+            (asked (UnderProfile place (Json wanted)) also);
+        sums = λ place wanted also objects. sums_lines g.R.Source.told g.W.Sink.told g.E.Sink.told SAMPLE.now
+            c.sums_are_lines.ensures place wanted objects (c.args.reader.now, c.args.out.now, c.args.err.now)
+            (c.run_task.new.reader, c.run_task.new.out, c.run_task.new.err) c.run_task.result
+            (asked (UnderProfile place (Stats wanted)) also);
         unread = λ some. absurd (some ask.no_fault);
         out_text = λ some done. absurd (some ask.no_fault);
         not_refusals = λ some. absurd (some ask.no_fault);
@@ -59,21 +74,34 @@ returns-in-Err-clause-ran g c =
       none_failed = λ other. (refl, c.in-Err.ensures.wrote.none_failed other);
       io_failed = λ failed. inr (inl (c.in-Err.ensures.wrote.io_failed failed));
       reads = none_in_all _;
-    } in (
+    } in
+    let asked : (asking : Asking) → AskFor (map g.S.AsStr.text c.args.words.now) asking
+    → DidTask g.R.Source.told g.W.Sink.told g.E.Sink.told SAMPLE.now asking
+    (c.args.reader.now, c.args.out.now, c.args.err.now)
+    (c.args.reader.now, c.parse_command.new.out, c.parse_command.new.err) c.in-Err.status =
+    λ asking ask. let no_memory = c.in-Err.ensures.memory asking ask in record {
+      did = does_none _ _ _ _ _ (inr no_memory);
+      tells = tells;
+      bad = λ bad. absurd (no_memory_is_not_bad _ no_memory bad);
+      bad_format = λ none. (inr no_memory, refl);
+      memory = λ _. unread g.R.Source.told asking _ _ refl;
+      err_text = c.in-Err.ensures.wrote.err_text;
+      quiet = c.in-Err.ensures.wrote.quiet;
+    } in
+    let writes : WritesJson =
+    record { whole = c.json_is_lines.ensures.whole; so_far = c.json_is_lines.ensures.so_far } in (
       c.in-Err.status,
       c.code-in-Err.ensures,
       record {
-        did = λ asking ask.
-            let no_memory = c.in-Err.ensures.memory asking ask in
-            record {
-              did = does_none _ _ _ _ _ (inr no_memory);
-              tells = tells;
-              bad = λ bad. absurd (no_memory_is_not_bad _ no_memory bad);
-              bad_format = λ none. (inr no_memory, refl);
-              memory = λ _. unread g.R.Source.told asking _ _ refl;
-              err_text = c.in-Err.ensures.wrote.err_text;
-              quiet = c.in-Err.ensures.wrote.quiet;
-            };
+        did = asked;
+        json = λ place wanted also reads. json_lines g.R.Source.told g.W.Sink.told g.E.Sink.told SAMPLE.now writes place
+            wanted (c.args.reader.now, c.args.out.now, c.args.err.now)
+            (c.args.reader.now, c.parse_command.new.out, c.parse_command.new.err) reads c.in-Err.status
+            (asked (UnderProfile place (Json wanted)) also);
+        sums = λ place wanted also objects. sums_lines g.R.Source.told g.W.Sink.told g.E.Sink.told SAMPLE.now
+            c.sums_are_lines.ensures place wanted objects (c.args.reader.now, c.args.out.now, c.args.err.now)
+            (c.args.reader.now, c.parse_command.new.out, c.parse_command.new.err) c.in-Err.status
+            (asked (UnderProfile place (Stats wanted)) also);
         unread = λ some. refl;
         out_text = λ some. c.in-Err.ensures.wrote.out_text;
         not_refusals = λ some. c.in-Err.ensures.wrote.not_refusals;

@@ -1,0 +1,6 @@
+mod Facts
+mod Lines
+mod Numbers
+mod Numerators
+mod Observed
+mod Voltages
