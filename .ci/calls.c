@@ -591,6 +591,68 @@ static int events(void)
     return 0;
 }
 
+/* Whether a byte is one of the characters. (There is no strchr on a bare board.) */
+static int is_one_of(const char *characters, unsigned byte)
+{
+    for (; *characters; characters++)
+        if ((unsigned char)*characters == byte) return 1;
+    return 0;
+}
+
+/* Whether some text leaves these numbers in a lexer. */
+static int is_at_a_text(const pmb_lexer *lexer)
+{
+    static const char tokens[] = "SPAN0123456789abcdefABCDEF";
+    const unsigned word = lexer->place == 2 ? 1 : 2;
+    if (lexer->place < 2) return 1;
+    if (lexer->place > 3) return 0;
+    if (lexer->used != (lexer->at > UINT64_MAX - word ? UINT64_MAX : lexer->at + word)) return 0;
+    if (word == 1) return is_one_of(tokens, lexer->first);
+    return is_one_of(tokens + 4, lexer->first) && is_one_of(tokens + 4, lexer->second);
+}
+
+/* A lexer with these numbers reads a text in the same way, whole and byte by byte. */
+static int reads_on(pmb_lexer lexer, const char *text)
+{
+    const size_t length = strlen(text);
+    reading whole, cut;
+    size_t i;
+    begin(&whole);
+    begin(&cut);
+    whole.lexer = cut.lexer = lexer;
+    EXPECT(give(&whole, text, length) && end_text(&whole));
+    for (i = 0; i < length; i++) EXPECT(give(&cut, text + i, 1));
+    EXPECT(end_text(&cut));
+    EXPECT(strcmp(whole.events, cut.events) == 0 && whole.status == cut.status);
+    EXPECT(whole.status != PMB_BAD_TOKEN || whole.lexer.at == cut.lexer.at);
+    EXPECT(whole.status == PMB_BAD_TOKEN || whole.lexer.used == cut.lexer.used);
+    return 0;
+}
+
+/* Any numbers: a lexer has them at some text, or it is refused. */
+static int any_numbers(void)
+{
+    static const char *const texts[] = {"", "A", " ", "#", "\n", "0 b0", "zz", "P b0 ", "#\nS", "S0"};
+    unsigned place, bytes, word;
+    size_t i;
+    for (place = 0; place < 8; place++)
+        for (bytes = 0; bytes < 65536; bytes += place == 3 ? 7 : 257)
+            for (word = 0; word < 4; word++) {
+                pmb_lexer lexer;
+                memset(&lexer, 0, sizeof lexer);
+                lexer.used = bytes % 5 ? 1000 : UINT64_MAX - bytes % 4;
+                lexer.at = bytes % 20 ? lexer.used - word : UINT64_MAX;
+                lexer.place = (uint8_t)place;
+                lexer.first = (uint8_t)(bytes >> 8);
+                lexer.second = (uint8_t)bytes;
+                if (!is_at_a_text(&lexer)) EXPECT(!stays_bad(lexer));
+                else if (lexer.used == 1000)
+                    for (i = 0; i < sizeof texts / sizeof *texts; i++)
+                        EXPECT(!reads_on(lexer, texts[i]));
+            }
+    return 0;
+}
+
 /* Numbers that no call leaves in a lexer. */
 static int senseless(void)
 {
@@ -660,7 +722,8 @@ static void *all(void *result)
 {
     *(int *)result = pmb_version() != PMB_VERSION || pecs() || formats() || half_precision() ||
                      vid_tables() || unsigned_direct() || round_trips() || texts_in() ||
-                     texts_out() || events() || senseless() || far_offsets() || nulls();
+                     texts_out() || events() || any_numbers() || senseless() || far_offsets() ||
+                     nulls();
     return result;
 }
 

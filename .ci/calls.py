@@ -737,21 +737,23 @@ def compare_wrong_types():
         (TypeError, {"devices": "58"}),
         (TypeError, {"devices": [5.0]}),
         (TypeError, {"devices": [None]}),
-        (ValueError, {"devices": [0xD8]}),
-        (ValueError, {"devices": [0x58, 0x80]}),
-        (ValueError, {"devices": [-1]}),
-        (ValueError, {"devices": [1 << 70]}),
-        (ValueError, {"devices": ["d8"]}),
-        (ValueError, {"devices": ["058"]}),
-        (ValueError, {"devices": ["5g"]}),
-        (ValueError, {"digits": 13}),
-        (ValueError, {"digits": -1}),
+        (pmb.Error, {"devices": [0xD8]}),
+        (pmb.Error, {"devices": [0x58, 0x80]}),
+        (pmb.Error, {"devices": [-1]}),
+        (pmb.Error, {"devices": [1 << 70]}),
+        (pmb.Error, {"devices": ["d8"]}),
+        (pmb.Error, {"devices": ["058"]}),
+        (pmb.Error, {"devices": ["5g"]}),
+        (pmb.Error, {"digits": 13}),
+        (pmb.Error, {"digits": -1}),
         (TypeError, {"digits": 6.0}),
         (TypeError, {"digits": "6"}),
-        (ValueError, {"fixed_vout_mode": True}),
+        (TypeError, {"digits": 13, "devices": [0xD8, None]}),
+        (pmb.Error, {"fixed_vout_mode": True}),
     ):
         for call in (pmb.json, pmb.transactions):
             check_raises(wrong, functools.partial(call, **options), PLAIN, "")
+        check_raises(wrong, functools.partial(pmb.Reader, **options), PLAIN)
     # .. and what is one
     byte = b"\xb0"
     for data in (byte, bytearray(byte), memoryview(byte), array.array("B", byte), [0xB0], iter(byte)):
@@ -773,6 +775,37 @@ def compare_wrong_types():
     check(pmb.json(PLAIN, "", [one], one) == pmb.json(PLAIN, "", [1], 1), "json of an index")
 
 
+def compare_choices(program):
+    """Of choices that ask for nothing, the fault that the program names: its name, its place, and which
+    is first."""
+    places = {"NeedsLate": "fixed_vout_mode", "BadDigits": "digits", "BadAddress": "devices"}
+    found = collections.Counter()
+    addresses = [[], ["58"], ["7f"], ["80"], ["ff"], ["58", "d8"], ["5"], ["058"], ["0x58"], ["5g"]]
+    for digits in (0, 6, 12, 13, 255, 10**30):
+        for devices in addresses:
+            for late, fixed in ((False, False), (True, False), (True, True), (False, True)):
+                words = ["json", "--digits", str(digits)] + ["--late"] * late
+                words += ["--fixed-vout-mode"] * fixed
+                for device in devices:
+                    words += ["--device", device]
+                ran = subprocess.run([program, *words], input=PLAIN.encode(), capture_output=True)
+                right = ran.stderr.decode().strip()
+                options = dict(devices=devices, digits=digits, late=late, fixed_vout_mode=fixed)
+                for call, *given in ((pmb.json, ""), (pmb.transactions, ""), (pmb.Reader,)):
+                    fault = ""
+                    try:
+                        call(PLAIN, *given, **options)
+                    except pmb.Error as error:
+                        fault = "pmb: json: " + error.fault
+                        text = f"{error.fault} in {places[error.fault]}: "
+                        check(error.place == places[error.fault], f"{words}: {error.place}")
+                        check(str(error).startswith(text), f"{words}: {error}")
+                        check(ran.returncode == 2, f"{words}: status {ran.returncode}")
+                    check(fault == right, f"{words}: {fault!r}, and not {right!r}")
+                    found[fault] += 1
+    check(len(found) == 4, f"{found}")
+
+
 class Index:
     """What Python takes as an int, as it does numbers of numpy."""
 
@@ -786,9 +819,8 @@ class Index:
 def compare_names_of_arguments():
     """What is wrong with an argument, word for word: its name, and what would be right."""
     numbers = "data is bytes or a list of their numbers, "
-    seven = "an address in devices has seven bits: "
-    either = "an address in devices is an int or two hexadecimal digits, not "
-    options = "an address in devices is from 0 to 127, not "
+    address = "BadAddress in devices: "
+    either = "an int or two hexadecimal digits, not "
     file = "capture is a str, bytes, a file, or an iterable of such pieces, "
     for right, call, *given in (
         (numbers + "not int", pmb.pec, 0xB0),
@@ -827,14 +859,15 @@ def compare_names_of_arguments():
         ("source is one of sigrok, saleae, beagle, kernel, smbus, not 'awk'", pmb.imported, "awk", ""),
         ("devices is a list of addresses, not int", pmb.json, PLAIN, "", 0x58),
         ("devices is a list of addresses, not str", pmb.json, PLAIN, "", "58"),
-        (seven + "0xd8 is the 8-bit form of 0x6c", pmb.json, PLAIN, "", [0xD8]),
-        (seven + "0xd8 is the 8-bit form of 0x6c", pmb.transactions, PLAIN, "", ["d8"]),
-        (options + "-1", pmb.json, PLAIN, "", [-1]),
-        (either + "float", pmb.json, PLAIN, "", [88.0]),
-        (either + "'0x58'", pmb.json, PLAIN, "", ["0x58"]),
-        ("digits is from 0 to 12, not 13", pmb.json, PLAIN, "", (), 13),
+        (address + "0xd8 is the 8-bit form of 0x6c", pmb.json, PLAIN, "", [0xD8]),
+        (address + "0xd8 is the 8-bit form of 0x6c", pmb.transactions, PLAIN, "", ["d8"]),
+        (address + "from 0 to 127, not -1", pmb.json, PLAIN, "", [-1]),
+        (address + "from 0 to 127, not 256", pmb.json, PLAIN, "", [0x58, 256]),
+        ("an address in devices is " + either + "float", pmb.json, PLAIN, "", [88.0]),
+        (address + either + "'0x58'", pmb.json, PLAIN, "", ["0x58"]),
+        ("BadDigits in digits: from 0 to 12, not 13", pmb.json, PLAIN, "", (), 13),
         ("digits is an int, not str", pmb.transactions, PLAIN, "", (), "6"),
-        ("fixed_vout_mode needs late", pmb.json, PLAIN, "", (), 6, False, True),
+        ("NeedsLate in fixed_vout_mode: only with late", pmb.json, PLAIN, "", (), 6, False, True),
     ):
         try:
             found = call(*given)
@@ -887,12 +920,14 @@ def compare_copies():
         (pmb.show, PLAIN + "x = 1", ""),
         (pmb.show, PLAIN.replace("0x58", "0xb0"), ""),
         (lambda text: list(pmb.events(text)), "S hm"),
+        (pmb.json, PLAIN, "", [0xD8]),
     ):
         try:
             call(*given)
         except pmb.Error as error:
             errors.append(error)
     kinds = [pmb.Error, pmb.Error, pmb.LineError, pmb.ProfileError, pmb.ProfileError, pmb.TokenError]
+    kinds += [pmb.Error]
     check([type(error) for error in errors] == kinds, f"{errors}")
     for error, right in zip(errors[2:], ("BadWord at 8 in line 2", "UnknownKey in device 0\n")):
         check(str(error).startswith(right), f"{error}, and not {right}")
@@ -1778,6 +1813,7 @@ def main():
     compare_neighbours()
     compare_kinds_of_objects(program)
     compare_wrong_types()
+    compare_choices(program)
     compare_names_of_arguments()
     compare_keys()
     compare_copies()

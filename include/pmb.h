@@ -7,8 +7,10 @@
  *  - It keeps nothing between calls, but for what a handle holds, and starts nothing. It may be
  *    called from several threads side by side. Two calls at one time may not write to the same place.
  *  - A pointer whose length is 0 may be null: it is an empty text, or no room. No other pointer may
- *    be. Behind a pointer with a length there are that many bytes, up to 2^63 - 1. What a call writes
- *    to overlaps neither what it reads nor what else it writes to.
+ *    be. Behind a pointer with a length there are that many bytes, up to 2^63 - 1.
+ *  - What a call only reads, as a profile and a capture, may overlap, or be the same. What it writes to
+ *    overlaps neither what it reads nor what else it writes to: what is behind each pointer that is
+ *    not to const, each handle among it, and all of a room, also where no text comes.
  *  - Every value is allowed. A status says what is out of range.
  *
  * There are two parts. Up to the line "whole inputs" below, for each function:
@@ -79,7 +81,8 @@ enum pmb_status {
     /* malloc or realloc had no memory. */
     PMB_NO_MEMORY = 18,
     /* A field of pmb_choice is out of range, or the address of a wanted device has more than seven
-     * bits; or pmb_recorder asks for what `pmb import` refuses. */
+     * bits: of the digits and the addresses this is what `pmb json` refuses as BadDigits and
+     * BadAddress. Or pmb_recorder asks for what `pmb import` refuses. */
     PMB_BAD_CHOICE = 19,
     /* No event has ended in the text so far. */
     PMB_NO_EVENT = 20,
@@ -242,13 +245,13 @@ typedef struct pmb_event {
 
 /* A lexer of a capture's text (docs/text.md): where the text so far has ended. It has 24 bytes and
  * no pointers, and may be copied. With all numbers 0, as of `pmb_lexer lexer = { 0 }`, it is one at
- * the start of a text. Numbers that no call left do no harm: no call reads or writes outside of
- * what it is given. But its events are those of no text, and need not be the same for each cut. */
+ * the start of a text. Any other numbers make it one at some text too, or else it is refused: each
+ * call returns PMB_BAD_TOKEN, uses nothing and leaves it as it is. */
 typedef struct pmb_lexer {
     uint64_t used;  /* how many bytes of the text were used; stays at 2^64 - 1 */
     uint64_t at;    /* the offset of the first byte of the word under way, or that is no token */
     uint8_t place;  /* 0 between words, 1 in a comment, 2 and 3 after one and two bytes of a word,
-                     * 4 where a word is no token */
+                     * 4 or more where a word is no token */
     uint8_t first;  /* the first byte of the word under way */
     uint8_t second; /* its second byte */
 } pmb_lexer;
@@ -361,7 +364,8 @@ typedef struct pmb_choice {
  * has seven bits: 58h, and not b0h. Packets to an address that the profile ignores have objects, and
  * count neither as packets nor as refusals.
  * The status is PMB_BAD_CHOICE, before all others, for a choice with a field out of range, and for
- * an address over 7fh. */
+ * an address over 7fh: what `pmb json` refuses as BadDigits and BadAddress before it reads any of its
+ * input. */
 size_t pmb_json(const char *profile, size_t profile_length, const char *capture,
                 size_t capture_length, const pmb_choice *choice, const uint8_t *devices,
                 size_t devices_length, char *out, size_t room, pmb_result *told);
@@ -470,8 +474,8 @@ typedef struct pmb_reader {
 /* Opens a reader of objects under a profile, with the choices of pmb_json. What the reader held before is
  * closed first. The profile may be closed before the reader. A reader takes 94 KB, and 122 KB while it
  * is opened; the list of devices; and room for what is ready and not taken.
- * Returns PMB_OK, PMB_CLOSED where the profile is, PMB_BAD_CHOICE or PMB_NO_MEMORY; then the reader is
- * closed. */
+ * Returns PMB_OK; or the first of PMB_BAD_CHOICE, PMB_CLOSED where the profile is, and PMB_NO_MEMORY;
+ * then the reader is closed. */
 int32_t pmb_reader_open(pmb_reader *reader, pmb_profile *profile, const pmb_choice *choice,
                         const uint8_t *devices, size_t devices_length);
 
@@ -614,8 +618,8 @@ typedef struct pmb_item {
 
 /* Opens a reader of items under a profile. All else is as for pmb_reader_open. (The digits of the choice
  * make no difference to items.) Each item that is ready takes 680 bytes until it is taken.
- * Returns PMB_OK, PMB_CLOSED where the profile is, PMB_BAD_CHOICE or PMB_NO_MEMORY; then the reader is
- * closed. */
+ * Returns PMB_OK; or the first of PMB_BAD_CHOICE, PMB_CLOSED where the profile is, and PMB_NO_MEMORY;
+ * then the reader is closed. */
 int32_t pmb_reader_open_items(pmb_reader *reader, pmb_profile *profile, const pmb_choice *choice,
                               const uint8_t *devices, size_t devices_length);
 

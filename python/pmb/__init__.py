@@ -167,10 +167,11 @@ _TABLES = ("vr11", "vr12", "vr13", "imvp9", "amd625mv", "nvidia195mv")
 
 
 class Error(ValueError):
-    """A format, a quantity or a code has a fault.
+    """A format, a quantity, a code or a choice of objects has a fault.
 
-    `fault` is the fault's name, as the program prints it: `Below`, `BadExponent` and so on. `place`
-    is the argument in which it lies: `format`, `quantity` or `code`.
+    `fault` is the fault's name, as the program prints it: `Below`, `BadExponent`, `BadAddress` and so
+    on. `place` is the argument in which it lies: `format`, `quantity`, `code`, `fixed_vout_mode`,
+    `digits` or `devices`. Of the last three the error's text says more.
 
         >>> import pmb
         >>> try:
@@ -178,19 +179,25 @@ class Error(ValueError):
         ... except pmb.Error as error:
         ...     print(error.fault, error.place, error, sep=", ")
         BadDigit, quantity, BadDigit in quantity
+        >>> try:
+        ...     pmb.json("", "", devices=[0xb0])
+        ... except pmb.Error as error:
+        ...     print(error)
+        BadAddress in devices: 0xb0 is the 8-bit form of 0x58
     """
 
-    def __init__(self, fault: str, place: str) -> None:
-        super().__init__("{} in {}".format(fault, place))
+    def __init__(self, fault: str, place: str, why: str = "") -> None:
+        super().__init__("{} in {}{}".format(fault, place, ": " + why if why else ""))
         self.fault = fault
         self.place = place
+        self._why = why
 
     # An exception is pickled and copied by the arguments of its class, which are not its text.
     def __reduce__(self) -> Tuple[Any, ...]:
         return type(self), self._arguments(), self.__dict__
 
     def _arguments(self) -> Tuple[Any, ...]:
-        return self.fault, self.place
+        return self.fault, self.place, self._why
 
 
 class ProfileError(Error):
@@ -688,7 +695,8 @@ def json(
     `digits` digits after the point, 0 to 12. `late` says that the capture begins in the middle, so
     that PAGE and VOUT_MODE are unknown at first; `fixed_vout_mode`, beside it, that VOUT_MODE is
     the profile's; `keep_going` that reading continues with the next line after a word that is no
-    token. Raises a `ProfileError`.
+    token. Raises an `Error`, which is the first of `NeedsLate`, `BadDigits` and `BadAddress`, or else
+    a `ProfileError`.
 
     The text has `packets` and `refusals`; packets to addresses that the profile ignores are neither.
 
@@ -1431,38 +1439,47 @@ def _data(data: Any) -> bytes:
     return bytes(data)
 
 
-def _address(device: Any) -> int:
+_ADDRESS = "an int or two hexadecimal digits"
+
+
+def _address_given(device: Any) -> Union[str, int]:
     if isinstance(device, str):
-        if not re.fullmatch("[0-9A-Fa-f]{2}", device):
-            raise ValueError(
-                "an address in devices is an int or two hexadecimal digits, not {!r}".format(device)
-            )
+        return device
+    try:
+        return operator.index(device)
+    except TypeError:
+        raise _wrong_type("an address in devices", _ADDRESS, device) from None
+
+
+def _address(device: Union[str, int]) -> int:
+    if isinstance(device, int):
+        address = device
+    elif re.fullmatch("[0-9A-Fa-f]{2}", device):
         address = int(device, 16)
     else:
-        try:
-            address = operator.index(device)
-        except TypeError:
-            wanted = "an int or two hexadecimal digits"
-            raise _wrong_type("an address in devices", wanted, device) from None
+        raise Error("BadAddress", "devices", "{}, not {!r}".format(_ADDRESS, device))
     if 0x80 <= address < 0x100:
-        raise ValueError(
-            "an address in devices has seven bits: 0x{:02x} is the 8-bit form of 0x{:02x}".format(
-                address, address >> 1
-            )
-        )
-    return _within("an address in devices", address, 0x7F)
+        form = "0x{:02x} is the 8-bit form of 0x{:02x}".format(address, address >> 1)
+        raise Error("BadAddress", "devices", form)
+    if not 0 <= address < 0x80:
+        raise Error("BadAddress", "devices", "from 0 to 127, not {}".format(address))
+    return address
 
 
 def _choice(
     devices: Any, digits: int, late: bool, fixed_vout_mode: bool, keep_going: bool
 ) -> _Chosen:
+    """What is chosen. Its faults, and their order, are those of the program's flags."""
     if isinstance(devices, str):
         raise _wrong_type("devices", "a list of addresses", devices)
     each = _each("devices", "a list of addresses", () if devices is None else devices)
-    wanted = bytes([_address(device) for device in each])
-    most_digits = _within("digits", digits, 12)
+    given = [_address_given(device) for device in each]
+    most_digits = _index("digits", digits)
     if fixed_vout_mode and not late:
-        raise ValueError("fixed_vout_mode needs late")
+        raise Error("NeedsLate", "fixed_vout_mode", "only with late")
+    if not 0 <= most_digits <= 12:
+        raise Error("BadDigits", "digits", "from 0 to 12, not {}".format(most_digits))
+    wanted = bytes([_address(device) for device in given])
     start = (1 if fixed_vout_mode else 2) if late else 0
     return ctypes.byref(_Choice(most_digits, start, 1 if keep_going else 0)), wanted, len(wanted)
 

@@ -16,7 +16,7 @@ use Rattle.pmb_table.specs.Profile.{ProfileParts}
 use Rattle.pmb_firmware.specs.CallStatus.{number_of}
 use Rattle.pmb_firmware.specs.declared.call_status.CallStatus.{CallStatus}
 use Rattle.pmb_firmware.specs.declared.call_status.CallStatus.TheVariants as status
-use Rattle.pmb_c.specs.Handle.{profile_in}
+use Rattle.pmb_c.specs.Handle.{HoldsProfile, profile_in}
 use Rattle.pmb_c.specs.Result.{result_of_status}
 use Rattle.pmb_c.specs.declared.held.Held.{Held}
 use Rattle.pmb_c.specs.declared.held.Held.TheVariants as held
@@ -50,12 +50,12 @@ pub record HasBus (bus : ProfileParts) (holds : Held) : Type 0 where
   pub done : answer.status ≡ did.Done
   pub is : bus_in (Some holds) ≡ Some session
 
--- A bus is open, or none: the other handle holds no profile, or there was no memory.
+-- A bus is open, or none: the other handle holds no profile, or there was no memory for a bus of the one that it holds.
 pub data OpensBus (from after : Option Held) (returned : ℤ) : Type 0 where
   Opened : (bus : ProfileParts) (holds : Held) → profile_in from ≡ Some bus → HasBus bus holds → after ≡ Some holds
       → returned ≡ number_of status.Done → OpensBus from after returned
   Closed : profile_in from ≡ None → after ≡ None → returned ≡ number_of status.Closed → OpensBus from after returned
-  NoMemory : after ≡ None → returned ≡ number_of status.NoMemory → OpensBus from after returned
+  NoMemory : HoldsProfile from → after ≡ None → returned ≡ number_of status.NoMemory → OpensBus from after returned
 
 -- ---- messages
 

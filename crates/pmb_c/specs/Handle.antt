@@ -29,6 +29,10 @@ profile_in (Some (held.Profile shared)) = Some (arc_value shared)
 profile_in (Some (held.Reader kept)) = None
 profile_in (Some (held.Bus kept)) = None
 
+-- it holds one
+abbrev pub HoldsProfile : Option Held → Type 0
+HoldsProfile from = (bus : ProfileParts) × (profile_in from ≡ Some bus)
+
 -- ---- opening
 
 -- A profile was read, and this is held and told of it. Nothing is held for want of memory.
@@ -44,12 +48,13 @@ pub record Opens (text : List ℕ) (after : Option Held) (told : PmbResult) : Ty
   pub is_profile : IsProfile text outcome
   pub opens : OpensOutcome outcome after told
 
--- Another handle of the same profile is open, or none: the handle holds no profile, or there was no memory.
+-- Another handle of the same profile is open, or none: the handle holds no profile, or there was no memory
+-- for another handle of the one that it holds.
 abbrev pub Shares : Option Held → Option Held → CallStatus → Type 0
 Shares from after why =
     ((bus : ProfileParts) × (profile_in from ≡ Some bus) × (profile_in after ≡ Some bus) × (why ≡ status.Done))
     ⊎ (((profile_in from ≡ None) × (after ≡ None) × (why ≡ status.Closed))
-    ⊎ ((after ≡ None) × (why ≡ status.NoMemory)))
+    ⊎ (HoldsProfile from × (after ≡ None) × (why ≡ status.NoMemory)))
 
 -- a status of which this holds is returned as its number
 pub record Returns (Holds : CallStatus → Type 0) (returned : ℤ) : Type 0 where
@@ -64,10 +69,11 @@ abbrev pub profile_of : {E : Type 0} → Result (Arc ProfileParts Global) E → 
 profile_of (Ok shared) = Ok (arc_value shared)
 profile_of (Err why) = Err why
 
--- what is lent of what is held
+-- What is lent of what is held. Only of a profile there may be no memory.
 abbrev pub Lends : Option Held → Result ProfileParts CallStatus → Type 0
 Lends from (Ok bus) = profile_in from ≡ Some bus
-Lends from (Err why) = ((why ≡ status.Closed) × (profile_in from ≡ None)) ⊎ (why ≡ status.NoMemory)
+Lends from (Err why) =
+    ((why ≡ status.Closed) × (profile_in from ≡ None)) ⊎ ((why ≡ status.NoMemory) × HoldsProfile from)
 
 -- nothing was done, for this reason
 pub record Stays (why : CallStatus) (before after : List ℕ) (told : PmbResult) : Type 0 where
@@ -81,7 +87,8 @@ pub data AnswersUnder (job : ProfileParts → Job Tally) (from : Option Held) (i
       → PutsUnder (job bus) input before after outcome → told ≡ result_of (length before) outcome
       → AnswersUnder job from input before after told
   Closed : profile_in from ≡ None → Stays status.Closed before after told → AnswersUnder job from input before after told
-  NoMemory : Stays status.NoMemory before after told → AnswersUnder job from input before after told
+  NoMemory : HoldsProfile from → Stays status.NoMemory before after told
+      → AnswersUnder job from input before after told
 
 -- as JSON, of devices at these addresses, and as it is chosen
 abbrev pub AnswersJsonUnder : Option JsonChoice → List ℕ → Option Held → List ℕ → List ℕ → List ℕ → PmbResult → Type 0

@@ -15,7 +15,7 @@ use Rattle.pmb_firmware.specs.CallStatus.{number_of}
 use Rattle.pmb_firmware.specs.declared.call_status.CallStatus.{CallStatus}
 use Rattle.pmb_firmware.specs.declared.call_status.CallStatus.TheVariants as status
 use Rattle.pmb_c.specs.Asked.{is_asked, telling_of}
-use Rattle.pmb_c.specs.Handle.{profile_in}
+use Rattle.pmb_c.specs.Handle.{HoldsProfile, profile_in}
 use Rattle.pmb_c.specs.Result.{result_of_status}
 use Rattle.pmb_c.specs.declared.held.Held.{Held}
 use Rattle.pmb_c.specs.declared.held.Held.TheVariants as held
@@ -82,7 +82,7 @@ pub record HasReader (kind : ReaderKind) (choice : JsonChoice) (devices : List �
   pub of_kind : kind_in (Some holds) ≡ Some kind
 
 -- A reader is open, or none: the choice has a number that none of its fields has; or it has none, and the other handle
--- holds no profile, or there was no memory.
+-- holds no profile, or there was no memory for a reader under the one that it holds.
 pub data OpensReader (kind : ReaderKind) (chosen : Option JsonChoice) (devices : List ℕ) (from after : Option Held)
     (returned : ℤ) : Type 0 where
   Opened : (choice : JsonChoice) (bus : ProfileParts) (holds : Held) → chosen ≡ Some choice → profile_in from ≡ Some bus
@@ -92,8 +92,8 @@ pub data OpensReader (kind : ReaderKind) (chosen : Option JsonChoice) (devices :
       → OpensReader kind chosen devices from after returned
   Closed : (choice : JsonChoice) → chosen ≡ Some choice → profile_in from ≡ None → after ≡ None
       → returned ≡ number_of status.Closed → OpensReader kind chosen devices from after returned
-  NoMemory : (choice : JsonChoice) → chosen ≡ Some choice → after ≡ None → returned ≡ number_of status.NoMemory
-      → OpensReader kind chosen devices from after returned
+  NoMemory : (choice : JsonChoice) → chosen ≡ Some choice → HoldsProfile from → after ≡ None
+      → returned ≡ number_of status.NoMemory → OpensReader kind chosen devices from after returned
 
 -- ---- reading
 

@@ -2,7 +2,7 @@
 //!
 //! Each export is the function of `pmb_firmware` of that name, and has its clauses.
 
-ghost use Rattle.std.specs.Prelude.{◌≡◌, ◌≤◌, ℕ, List, [], ◌∷◌, ◌++◌, bit_xor, length, option_map};
+ghost use Rattle.std.specs.Prelude.{◌≡◌, ◌⊎◌, ◌≤◌, ℕ, List, [], ◌∷◌, ◌++◌, bit_xor, length, option_map};
 ghost use Rattle.pmb_bus.specs.declared.event.Event.{Event as BusEvent};
 ghost use Rattle.pmb_bus.specs.declared.lexer.LexFault.{LexFault};
 ghost use Rattle.pmb_bus.specs.Pec.{pec};
@@ -14,7 +14,7 @@ ghost use Rattle.pmb_firmware.specs.Format.{named};
 ghost use Rattle.pmb_firmware.specs.Number.{Decodes, Encodes, Parses};
 ghost use Rattle.pmb_firmware.specs.Quantity.{quantity_of};
 ghost use Rattle.pmb_firmware.specs.Room.{put_some, quantity_text, some_name};
-ghost use Rattle.pmb_firmware.specs.Lexer.{IsFaulted, StandsAt};
+ghost use Rattle.pmb_firmware.specs.Lexer.{IsFaulted, StandsAt, StandsSomewhere};
 ghost use Rattle.pmb_quantity.specs.Reading.{reading};
 
 use pmb_firmware::{PmbEvent, PmbFormat, PmbLexer, PmbQuantity};
@@ -122,6 +122,8 @@ pub extern "C" fn pmb_lex(
         → Lexes n text events piece.now used.new lexer.new event.old result event.new }
     ensures faulted { (fault : LexFault) → IsFaulted lexer.old fault
         → StaysFaulted lexer.old lexer.new event.old result event.new × (used.new ≡ 0) }
+    ensures any { StandsSomewhere lexer.old
+        ⊎ (StaysFaulted lexer.old lexer.new event.old result event.new × (used.new ≡ 0)) }
     ensures within { used.new ≤ length piece.now }
 {
     pmb_firmware::lex(lexer, piece, used, event)
@@ -134,6 +136,7 @@ pub extern "C" fn pmb_lex_end(lexer: &mut PmbLexer, event: &mut PmbEvent) -> i32
         → Ends n text events lexer.new event.old result event.new }
     ensures faulted { (fault : LexFault) → IsFaulted lexer.old fault
         → StaysFaulted lexer.old lexer.new event.old result event.new }
+    ensures any { StandsSomewhere lexer.old ⊎ StaysFaulted lexer.old lexer.new event.old result event.new }
 {
     pmb_firmware::lex_end(lexer, event)
 }

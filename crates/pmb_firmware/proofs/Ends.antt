@@ -19,7 +19,7 @@ use Rattle.pmb_firmware.proofs.Runs.{ended_append, following, glue, inside_appen
 
 -- ---- one byte more
 
-abbrev blank : Bool → ℕ → ℕ
+abbrev pub blank : Bool → ℕ → ℕ
 blank inside b = cond (in_comment inside b) 32 b
 
 pub inside_by : (text : List ℕ) (b : ℕ) → ends_in_comment (text ++ b ∷ []) ≡ in_comment (ends_in_comment text) b
@@ -71,7 +71,7 @@ outside_stays b other =
       | inr more ↦ ap (λ (v : Bool). cond v false (b == 35)) more ∙ other
     ]
 
-hash_begins : (b : ℕ) → (b == 35) ≡ true → in_comment false b ≡ true
+pub hash_begins : (b : ℕ) → (b == 35) ≡ true → in_comment false b ≡ true
 hash_begins b hash = rw (eqb-true b 35 hash) refl
 
 module _ (text : List ℕ) (b : ℕ) (outside : ends_in_comment text ≡ false) where
@@ -95,7 +95,7 @@ module _ (text : List ℕ) (b : ℕ) (outside : ends_in_comment text ≡ false) 
     begins.2,
   )
 
-  open_longer : (word : List ℕ) → is_separator b ≡ false → (b == 35) ≡ false → IsOpen text word
+  pub open_longer : (word : List ℕ) → is_separator b ≡ false → (b == 35) ≡ false → IsOpen text word
       → IsOpen (text ++ b ∷ []) (word ++ b ∷ [])
   open_longer word keeps other begun =
       let more = goes_on keeps other in

@@ -5,4 +5,5 @@ pub mod Spaces
 pub mod Spelled
 pub mod Bad
 pub mod Resumed
+pub mod Somewhere
 pub mod Answered

@@ -15,6 +15,13 @@ use Rattle.pmb_bus.specs.Text.{EndedWordsSpell, Spells, BeginsText}
 use Rattle.pmb_firmware.specs.declared.lexer.PmbLexer.{PmbLexer}
 pub use Rattle.pmb_firmware.specs.machine.Standing.{StandsAt, IsFaulted}
 
+-- It stands at some text: what it answers from here on is what a lexer answers that was given that text.
+pub record StandsSomewhere (lexer : PmbLexer) : Type 0 where
+  pub n : ℕ
+  pub text : List ℕ
+  pub events : List Event
+  pub stands : StandsAt lexer n text events
+
 -- `Need`: all of the piece is used, and no further word has ended.
 pub record NeedsMore (n : ℕ) (text : List ℕ) (events : List Event) (piece : List ℕ) (used : ℕ)
     (after : PmbLexer) : Type 0 where

@@ -1,11 +1,11 @@
 //! The events of a capture's text.
 
-ghost use Rattle.std.specs.Prelude.{◌≡◌, ◌≤◌, ℕ, List, length};
+ghost use Rattle.std.specs.Prelude.{◌≡◌, ◌⊎◌, ◌≤◌, ℕ, List, length};
 ghost use Rattle.pmb_bus.specs.declared.event.Event.{Event as BusEvent};
 ghost use Rattle.pmb_bus.specs.declared.lexer.LexFault.{LexFault};
 ghost use Rattle.pmb_firmware.specs.Event.{Ends, Lexes, StaysFaulted, TellsStep, event_numbers};
 ghost use Rattle.pmb_firmware.specs.CallStatus.{number_of};
-ghost use Rattle.pmb_firmware.specs.Lexer.{IsFaulted, StandsAt};
+ghost use Rattle.pmb_firmware.specs.Lexer.{IsFaulted, StandsAt, StandsSomewhere};
 
 use crate::call_status::CallStatus;
 use crate::lexer::PmbLexer;
@@ -42,12 +42,14 @@ impl PmbEvent {
 /// `used` is told how many bytes of the piece were used: those after are to be given again. The
 /// status is that all is used and no event has ended; or that a word is no token, which begins at
 /// the lexer's `at`, and then every such call says so again and uses nothing. Then the event stays
-/// as it was.
+/// as it was. So it is with numbers that a lexer has at no text.
 pub fn lex(lexer: &mut PmbLexer, piece: &[u8], used: &mut usize, event: &mut PmbEvent) -> i32
     ensures stands { (n : ℕ) (text : List ℕ) (events : List BusEvent) → StandsAt lexer.old n text events
         → Lexes n text events piece.now used.new lexer.new event.old result event.new }
     ensures faulted { (fault : LexFault) → IsFaulted lexer.old fault
         → StaysFaulted lexer.old lexer.new event.old result event.new × (used.new ≡ 0) }
+    ensures any { StandsSomewhere lexer.old
+        ⊎ (StaysFaulted lexer.old lexer.new event.old result event.new × (used.new ≡ 0)) }
     ensures within { used.new ≤ length piece.now }
 {
     let lexed = lexer.feed(piece);
@@ -79,6 +81,7 @@ pub fn lex_end(lexer: &mut PmbLexer, event: &mut PmbEvent) -> i32
         → Ends n text events lexer.new event.old result event.new }
     ensures faulted { (fault : LexFault) → IsFaulted lexer.old fault
         → StaysFaulted lexer.old lexer.new event.old result event.new }
+    ensures any { StandsSomewhere lexer.old ⊎ StaysFaulted lexer.old lexer.new event.old result event.new }
 {
     match lexer.finish() {
         Ok(Some(found)) => {

@@ -6,15 +6,19 @@
 //! piece is what it would answer after the whole text: `proofs/Tails` says so. Then `go_over` finds
 //! the end of the bytes that were used.
 //!
+//! A struct from C may have any numbers. Those that a lexer has at no text are refused, as a word that is
+//! no token is: so whatever they are, no answer depends on how the text is cut.
+//!
 //! Its rows: `tests_bytes`, `src/firmware/cuts.rt`.
 
-ghost use Rattle.std.specs.Prelude.{◌≡◌, ◌+◌, ◌<◌, ◌≤◌, ◌++◌, ◌∷◌, ℕ, List, [], length, Err, None};
+ghost use Rattle.std.specs.Prelude.{◌≡◌, ◌⊎◌, ◌↔◌, ◌+◌, ◌^◌, ◌<◌, ◌≤◌, ◌++◌, ◌∷◌, ℕ, true, IfSome, List, [], length, Err, None};
 ghost use Rattle.pmb_bus.specs.declared.event.Event.{Event as BusEvent};
+ghost use Rattle.pmb_bus.specs.Count.{capped};
 ghost use Rattle.pmb_bus.specs.Lexer.{LexerStandsAt, IsFaulted as OtherIsFaulted};
 ghost use Rattle.pmb_bus.specs.Text.{is_separator};
-ghost use Rattle.pmb_firmware.specs.Lexer.{Feeds, Finishes, IsFaulted, StandsAt};
+ghost use Rattle.pmb_firmware.specs.Lexer.{Feeds, Finishes, IsFaulted, StandsAt, StandsSomewhere};
 ghost use Rattle.pmb_firmware.specs.machine.Standing.{IsTail, Resumes, ResumesBehind};
-ghost use Rattle.pmb_firmware.specs.machine.Bytes.{IsEnd, behind, faulted, longer};
+ghost use Rattle.pmb_firmware.specs.machine.Bytes.{IsEnd, behind, faulted, is_of_word, longer};
 
 use pmb_bus::{Event, LexFault, Lexed, Lexer, Step};
 
@@ -69,6 +73,10 @@ impl PmbLexer {
             → Feeds n text events bytes.now result.used result.step self.new }
         ensures faulted { (fault : LexFault) → IsFaulted self.old fault
             → (result ≡ record { used = 0; step = Step.Fault fault }) × (self.new ≡ self.old) }
+
+        // Whatever numbers it has: it is a lexer at some text, or it is refused.
+        ensures any { StandsSomewhere self.old
+            ⊎ ((result ≡ record { used = 0; step = Step.Fault (LexFault.BadToken self.old.at) }) × (self.new ≡ self.old)) }
         ensures within { result.used ≤ length bytes.now }
     {
         let Some(mut lexer) = self.resumed() else {
@@ -96,6 +104,8 @@ impl PmbLexer {
         ensures stands { (n : ℕ) (text : List ℕ) (events : List BusEvent) → StandsAt self.old n text events
             → Finishes n text events result self.new }
         ensures faulted { (fault : LexFault) → IsFaulted self.old fault → (result ≡ Err fault) × (self.new ≡ self.old) }
+        ensures any { StandsSomewhere self.old
+            ⊎ ((result ≡ Err (LexFault.BadToken self.old.at)) × (self.new ≡ self.old)) }
     {
         let Some(mut lexer) = self.resumed() else {
             return Err(self.fault());
@@ -111,19 +121,59 @@ impl PmbLexer {
     }
 
     /// The lexer of `pmb_bus` that continues as this one does: it was given the end of the text
-    /// alone. `None` after a fault, and where the numbers are none that a call left.
+    /// alone. `None` after a fault, and where a lexer has these numbers at no text.
     fn resumed(&self) -> Option<Lexer>
         ensures stands { (n : ℕ) (text : List ℕ) (events : List BusEvent) → StandsAt self.now n text events
             → Resumes self.now text result }
         ensures faulted { (fault : LexFault) → IsFaulted self.now fault → result ≡ None }
+        ensures somewhere { IfSome result (λ _. StandsSomewhere self.now) }
     {
+        // Reading it tells the proof its range.
+        let _used = self.used;
         match self.place {
             BETWEEN => Some(Lexer::new()),
             COMMENT => lexer_behind(b"#"),
-            ONE => lexer_behind(&[self.first]),
-            TWO => lexer_behind(&[self.first, self.second]),
+            ONE => self.after_one(),
+            TWO => self.after_two(),
             _ => None,
         }
+    }
+
+    /// The lexer after the first byte of a word. `None` where no word begins with it, or none can have
+    /// begun there.
+    fn after_one(&self) -> Option<Lexer>
+        requires { self.now.place ≡ 2 }
+        ensures stands { (n : ℕ) (text : List ℕ) (events : List BusEvent) → StandsAt self.now n text events
+            → Resumes self.now text result }
+        ensures somewhere { IfSome result (λ _. StandsSomewhere self.now) }
+    {
+        if self.has_begun(1) && is_of_word(self.first) {
+            lexer_behind(&[self.first])
+        } else {
+            None
+        }
+    }
+
+    /// The same after the first two bytes of a word.
+    fn after_two(&self) -> Option<Lexer>
+        requires { self.now.place ≡ 3 }
+        ensures stands { (n : ℕ) (text : List ℕ) (events : List BusEvent) → StandsAt self.now n text events
+            → Resumes self.now text result }
+        ensures somewhere { IfSome result (λ _. StandsSomewhere self.now) }
+    {
+        if self.has_begun(2) && is_of_word(self.first) && is_of_word(self.second) {
+            lexer_behind(&[self.first, self.second])
+        } else {
+            None
+        }
+    }
+
+    /// Whether so many bytes were used since the word began.
+    fn has_begun(&self, length: u64) -> bool
+        ensures begun { (result ≡ true) ↔ (self.now.used ≡ capped (self.now.at + length)) }
+        ensures fits { self.now.at < 2 ^ 64 }
+    {
+        self.used == self.at.saturating_add(length)
     }
 
     /// Goes over bytes that were used, after which the other lexer is. Most events end between
@@ -216,6 +266,13 @@ fn lexer_behind(bytes: &[u8]) -> Option<Lexer>
         Step::Need => Some(lexer),
         Step::Event(_) | Step::Fault(_) => None,
     }
+}
+
+/// Whether a word can have this byte: it ends none.
+fn is_of_word(byte: u8) -> bool
+    ensures { result ≡ is_of_word byte }
+{
+    !(is_separator(byte) || byte == b'#')
 }
 
 fn is_separator(byte: u8) -> bool

@@ -1,3 +1,4 @@
 pub mod Texts
 pub mod Works
 pub mod Laying
+pub mod Faults

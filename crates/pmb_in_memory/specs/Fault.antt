@@ -30,6 +30,11 @@ fault_by kind.OutOfMemory fault = Memory
 abbrev pub of_profile : ProfileFault → WholeFault
 of_profile fault = fault_by fault.what fault
 
+-- what reading a profile came to: the profile, its fault with its place, or want of memory
+abbrev pub read_of : {A : Type 0} → Result A ProfileFault → Result A WholeFault
+read_of (Ok profile) = Ok profile
+read_of (Err fault) = Err (of_profile fault)
+
 -- of the faults of a run over bytes at hand; those of reads and of a front don't come
 abbrev pub of_tool : ToolFault → WholeFault
 of_tool tool.Write = Write

@@ -1,5 +1,5 @@
 -- What a profile's text says.
-use Rattle.std.specs.Prelude.{◌≢◌, Result, Ok, Err, List, ℕ}
+use Rattle.std.specs.Prelude.{◌≡◌, ◌≢◌, ◌⊎◌, Result, Ok, Err, List, ℕ}
 use Rattle.pmb_command.specs.Bus.{IsBus}
 use Rattle.pmb_keys.specs.declared.fault.FaultKind.TheVariants.{OutOfMemory}
 use Rattle.pmb_table.specs.Profile.{ProfileParts, SaysBus}
@@ -23,3 +23,7 @@ IsProfile text (Ok bus) = HasBus text bus
 IsProfile text (Err (Profile fault)) = HasFault text fault
 IsProfile text (Err Memory) = Unit {0}
 IsProfile text (Err Write) = ⊥
+
+-- the answer is this fault, with its device and its command, or that there was no memory
+abbrev pub IsToldOf : {A : Type 0} → ProfileFault → Result A WholeFault → Type 0
+IsToldOf fault answer = (answer ≡ Err (Profile fault)) ⊎ (answer ≡ Err Memory)

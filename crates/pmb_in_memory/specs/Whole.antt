@@ -25,6 +25,12 @@ module _ {W : Type 0} (told : W → WriterTold) where
   WorksUnder job input old new (Err Memory) = new ≡ old
   WorksUnder job input old new (Err Write) = (told new).failures ≡ raised (told old).failures 1
 
+  -- the same under a profile that was read; where none was, the answer is why, and nothing was written
+  abbrev pub WorksIf : (ProfileParts → Job Tally) → Result ProfileParts WholeFault → List ℕ → W → W
+      → Result Tally WholeFault → Type 0
+  WorksIf job (Ok bus) input old new result = WorksUnder (job bus) input old new result
+  WorksIf job (Err fault) input old new result = (result ≡ Err fault) × (new ≡ old)
+
   -- the same under a profile's text; nothing was written where that has a fault
   abbrev pub WorksOn : (ProfileParts → Job Tally) → List ℕ → List ℕ → W → W → Result Tally WholeFault → Type 0
   WorksOn job profile input old new (Ok tally) = WroteWhole job profile input old new tally

@@ -11,7 +11,7 @@ use pmb_unknown_start::Start;
 pub struct JsonChoice {
     /// The most digits after the point of a number.
     pub digits: Digits,
-    /// What is known of PAGE and VOUT_MODE where the capture begins.
+    /// What is known of PAGE and VOUT_MODE where the capture begins, and after a line that was dropped.
     pub start: Start,
     /// Whether reading ends at a word that is no token, or continues with the next line.
     pub bad_words: AfterBadToken,

@@ -3,10 +3,11 @@
 //! Its rows: `tests_tasks`, `src/whole.rt`.
 
 ghost use Rattle.std.specs.Prelude.{◌≡◌, IfOk};
-ghost use Rattle.pmb_in_memory.specs.Fault.{whole_of};
+ghost use Rattle.pmb_command.specs.Bus.{IsBus};
+ghost use Rattle.pmb_in_memory.specs.Fault.{read_of, whole_of};
 ghost use Rattle.pmb_in_memory.specs.Json.{telling};
 ghost use Rattle.pmb_in_memory.specs.Profile.{IsProfile};
-ghost use Rattle.pmb_in_memory.specs.Whole.{WorksOn, WorksUnder};
+ghost use Rattle.pmb_in_memory.specs.Whole.{WorksIf, WorksOn, WorksUnder};
 ghost use Rattle.pmb_in_memory.specs.MemoryTask.{working};
 
 use crate::fault::WholeFault;
@@ -17,8 +18,8 @@ use pmb_capture::{check_whole, show_whole};
 use pmb_fact_stream::{Choice, Telling};
 use pmb_io::{Sink, Tally, ToolFault};
 use pmb_run::run_whole;
-use pmb_table::BusProfile;
 use pmb_table::laws::accepted_bus;
+use pmb_table::{BusProfile, ProfileFault};
 use pmb_telling::tell_whole;
 use std::alloc::Global;
 
@@ -37,10 +38,8 @@ pub fn write_whole<W: Sink>(
 ) -> Result<Tally, WholeFault>
     ensures { WorksOn W.told (working work) profile.now input.now out.old out.new result }
 {
-    match read_profile(alloc, profile) {
-        Ok(bus) => ended(work_under(work, alloc, &bus, input, out)),
-        Err(fault) => Err(fault),
-    }
+    let read = read_profile(alloc, profile);
+    work_if(work, alloc, &read, input, out)
 }
 
 /// Writes the objects of a capture under a profile, each as a line of JSON, and answers the tally.
@@ -61,10 +60,8 @@ pub fn write_json<W: Sink>(
 ) -> Result<Tally, WholeFault>
     ensures { WorksOn W.told (telling choice devices.now) profile.now capture.now out.old out.new result }
 {
-    match read_profile(alloc, profile) {
-        Ok(bus) => ended(json_under(choice, devices, alloc, &bus, capture, out)),
-        Err(fault) => Err(fault),
-    }
+    let read = read_profile(alloc, profile);
+    json_if(choice, devices, alloc, &read, capture, out)
 }
 
 /// The profile of a text.
@@ -75,12 +72,53 @@ pub fn write_json<W: Sink>(
 pub fn read_profile(alloc: Global, text: &[u8]) -> Result<BusProfile, WholeFault>
     ensures { IsProfile text.now result }
 {
-    match BusProfile::from_toml(alloc, text) {
+    handed_on(BusProfile::from_toml(alloc, text))
+}
+
+/// Hands on what reading a profile came to: each fault with its device and its command.
+fn handed_on(read: Result<BusProfile, ProfileFault>) -> Result<BusProfile, WholeFault>
+    ensures told { result ≡ read_of read }
+    ensures accepted { IfOk result (λ bus. IsBus bus.devices) }
+{
+    match read {
         Ok(bus) => {
             accepted_bus(bus.profile());
             Ok(bus)
         }
         Err(fault) => Err(WholeFault::of_profile(fault)),
+    }
+}
+
+/// Does a work on an input under a profile, or answers why that was not read.
+fn work_if<W: Sink>(
+    work: MemoryTask,
+    alloc: Global,
+    read: &Result<BusProfile, WholeFault>,
+    input: &[u8],
+    out: &mut W,
+) -> Result<Tally, WholeFault>
+    ensures { WorksIf W.told (working work) read.now input.now out.old out.new result }
+{
+    match read {
+        Ok(bus) => ended(work_under(work, alloc, bus, input, out)),
+        Err(fault) => Err(*fault),
+    }
+}
+
+/// Writes the objects of a capture under a profile, or answers why that was not read.
+fn json_if<W: Sink>(
+    choice: JsonChoice,
+    devices: &[u8],
+    alloc: Global,
+    read: &Result<BusProfile, WholeFault>,
+    capture: &[u8],
+    out: &mut W,
+) -> Result<Tally, WholeFault>
+    ensures { WorksIf W.told (telling choice devices.now) read.now capture.now out.old out.new result }
+{
+    match read {
+        Ok(bus) => ended(json_under(choice, devices, alloc, bus, capture, out)),
+        Err(fault) => Err(*fault),
     }
 }
 

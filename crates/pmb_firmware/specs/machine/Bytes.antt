@@ -1,10 +1,14 @@
 -- What one byte more makes of a lexer's numbers.
-use Rattle.std.specs.Prelude.{◌≡◌, ℕ, ◌+◌, ◌≤◌, ◌==◌, ◌||◌, false, if◌then◌else◌, List, length}
+use Rattle.std.specs.Prelude.{◌≡◌, ℕ, ◌+◌, ◌≤◌, ◌==◌, ◌||◌, Bool, false, not, if◌then◌else◌, List, length}
 use Rattle.pmb_bus.specs.Count.{capped}
 use Rattle.pmb_bus.specs.Event.{character}
 use Rattle.pmb_bus.specs.Text.{ends_in_comment, is_separator, open_word, WordBeginsAt}
 use Rattle.pmb_firmware.specs.declared.lexer.PmbLexer.{PmbLexer}
 use Rattle.pmb_firmware.specs.machine.Standing.{IsPlace}
+
+-- whether a word can have a byte: it is no separator, and begins no comment
+abbrev pub is_of_word : ℕ → Bool
+is_of_word b = not (is_separator b || b == character "#")
 
 -- after one more byte of a word
 abbrev pub longer : PmbLexer → ℕ → PmbLexer

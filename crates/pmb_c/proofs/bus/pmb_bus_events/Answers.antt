@@ -1,4 +1,4 @@
-use Rattle.std.proofs.Common.{◌≡◌, ◌∙◌, List, ℕ, refl, ap, sym, subst}
+use Rattle.std.proofs.Common.{◌∙◌, List, ℕ, refl, ap, sym, subst}
 use native.Mathlib.Omega.{arith}
 use Rattle.pmb_bus_session.specs.Session.{MovesText}
 use Rattle.pmb_bus_session.specs.Work.{ActsFor}

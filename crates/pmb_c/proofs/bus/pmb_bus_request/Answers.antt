@@ -1,4 +1,4 @@
-use Rattle.std.proofs.Common.{refl, ◌∙◌, ◌≡◌, List, ℕ, ap, sym, subst}
+use Rattle.std.proofs.Common.{◌∙◌, List, ℕ, ap, subst}
 use Rattle.pmb_bus_session.specs.Session.{Requests}
 use Rattle.pmb_bus_session.specs.Work.{ActsFor}
 use Rattle.pmb_bus_session.specs.declared.work.BusAnswer.{BusAnswer}

@@ -1,6 +1,5 @@
 use Rattle.std.proofs.Common.{Some, ap, sym, subst, ◌∙◌, Option}
 use Rattle.pmb_in_memory.specs.declared.json_choice.JsonChoice.{JsonChoice}
-use Rattle.pmb_c.specs.Choice.{chosen}
 use Rattle.pmb_c.specs.Handle.{AnswersJsonUnder, Under}
 use Rattle.pmb_c.proofs.profile.json_under.Goals as goal
 

@@ -5,7 +5,7 @@ use Rattle.pmb_in_memory.specs.declared.json_choice.JsonChoice.{JsonChoice}
 use Rattle.pmb_firmware.specs.CallStatus.{number_of}
 use Rattle.pmb_firmware.specs.declared.call_status.CallStatus.{CallStatus}
 use Rattle.pmb_firmware.specs.declared.call_status.CallStatus.TheVariants as status
-use Rattle.pmb_c.specs.Handle.{profile_in}
+use Rattle.pmb_c.specs.Handle.{HoldsProfile, profile_in}
 use Rattle.pmb_c.specs.Reader.{OpensReader, Opened, Closed, NoMemory}
 use Rattle.pmb_c.specs.declared.held.Held.{Held}
 use Rattle.pmb_c.specs.declared.held.ReaderKind.{ReaderKind}
@@ -20,17 +20,18 @@ returns-in-Ok-opened-clause-opens c =
 -- there was no memory for it,
 pub returns-in-Err-opened-clause-opens : goal.returns-in-Err-opened-clause-opens
 returns-in-Err-opened-clause-opens c =
-    NoMemory c.in-Some.choice (sym c.in-Some.ensures) c.closed.ensures (rw c.number-in-Err-opened.ensures refl)
+    NoMemory c.in-Some.choice (sym c.in-Some.ensures) (arc_value c.in-Ok.bus, c.in-Ok.ensures.lends) c.closed.ensures
+    (rw c.number-in-Err-opened.ensures refl)
 
 -- or no profile is lent
 unlent : (kind : ReaderKind) (asked : Option JsonChoice) (devices : List ℕ) (from after : Option Held) (number : ℤ)
     (choice : JsonChoice) (why : CallStatus) → asked ≡ Some choice
-    → ((why ≡ status.Closed) × (profile_in from ≡ None)) ⊎ (why ≡ status.NoMemory) → after ≡ None
+    → ((why ≡ status.Closed) × (profile_in from ≡ None)) ⊎ ((why ≡ status.NoMemory) × HoldsProfile from) → after ≡ None
     → number ≡ number_of why → OpensReader kind asked devices from after (cast_signed w32 (cast_unsigned w32 number))
 unlent kind asked devices from after number choice why is (inl closed) none told =
     Closed choice is closed.1 none (rw (told ∙ ap number_of closed.0) refl)
 unlent kind asked devices from after number choice why is (inr lacks) none told =
-    NoMemory choice is none (rw (told ∙ ap number_of lacks) refl)
+    NoMemory choice is lacks.1 none (rw (told ∙ ap number_of lacks.0) refl)
 
 pub returns-in-Err-clause-opens : goal.returns-in-Err-clause-opens
 returns-in-Err-clause-opens c =

@@ -1,4 +1,4 @@
-use Rattle.std.proofs.Common.{◌≡◌, ◌∙◌, Option, List, ℕ, ap, option_map}
+use Rattle.std.proofs.Common.{◌∙◌, Option, List, ℕ, ap, option_map}
 use Rattle.pmb_command.specs.Parts.{DeviceParts}
 use Rattle.pmb_fact_stream.specs.declared.telling.Telling.TheVariants.{Objects}
 use Rattle.pmb_telling.specs.Tell.{telling_job}

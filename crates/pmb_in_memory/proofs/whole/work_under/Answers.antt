@@ -1,4 +1,4 @@
-use Rattle.std.proofs.Common.{◌≡◌, ◌∙◌, ap, sym}
+use Rattle.std.proofs.Common.{◌∙◌, ap, sym}
 use Rattle.pmb_build.specs.Lines.{building}
 use Rattle.pmb_capture.specs.Check.{checking}
 use Rattle.pmb_capture.specs.Show.{showing}

@@ -1,0 +1,14 @@
+use Rattle.std.proofs.Common.{◌∙◌, sym}
+use Rattle.pmb_firmware.proofs.Resumed.{resumes_one}
+use Rattle.pmb_firmware.proofs.Somewhere.{one_somewhere}
+use Rattle.pmb_firmware.proofs.lexer.PmbLexer.after_one.Goals as goal
+
+pub returns-then-is_of_word-clause-stands : goal.returns-then-is_of_word-clause-stands
+returns-then-is_of_word-clause-stands c = λ n text events stands.
+    resumes_one c.args.self.now n text events stands c.requires c.lexer_behind.result c.lexer_behind.ensures
+
+pub returns-then-is_of_word-clause-somewhere : goal.returns-then-is_of_word-clause-somewhere
+returns-then-is_of_word-clause-somewhere c =
+    one_somewhere c.args.self.now c.requires c.has_begun.ensures.fits
+    (c.has_begun.ensures.begun.0 c.if-has_begun.true) (sym c.is_of_word.ensures ∙ c.if-is_of_word.true)
+    c.lexer_behind.result c.lexer_behind.ensures
