@@ -2,7 +2,7 @@
 //!
 //! Its rows: `tests/rows/hints.txt`.
 
-ghost use Rattle.std.specs.Prelude.{◌≢◌, [], IfSome};
+ghost use Rattle.std.specs.Prelude.{◌≡◌, ◌≢◌, ◌++◌, [], codes, ℕ, List, IfSome};
 ghost use Rattle.pmb_hints.specs.Place.{IsPlaceIn};
 
 use crate::lines::hints;
@@ -42,6 +42,7 @@ pub fn fault_text(fault: ProfileFault) -> FaultText {
 pub fn explanation(alloc: Global, text: &[u8], fault: ProfileFault) -> FaultReport
     // Some text is there for each fault.
     ensures some { result.text.bytes ≢ [] }
+    ensures front { (rest : List ℕ) × (result.text.bytes ≡ codes "pmb: " ++ rest) }
     ensures place { IfSome result.place (IsPlaceIn text.now) }
 {
     let hints = hints(alloc, text, fault);

@@ -1,5 +1,6 @@
 //! What a scan tells its visitor of captures, worked out by hand, however they are cut.
 
 mod example;
+mod kinds;
 mod log;
 mod scans;

@@ -19,6 +19,10 @@ pub struct Log {
     pub places: ArrayVec<u64, 8>,
     /// How many packets were taken at once.
     pub wholes: usize,
+    /// How many events these have.
+    pub events_at_once: usize,
+    /// How many packets were taken word by word.
+    pub singles: usize,
 }
 
 impl Log {
@@ -50,6 +54,7 @@ impl Visitor for Log {
         _waiting: &mut Waiting,
         _writer: &mut W,
     ) -> Result<(), RunFault> {
+        self.singles = self.singles.saturating_add(1);
         self.append(b"packet ");
         Ok(())
     }
@@ -57,12 +62,13 @@ impl Visitor for Log {
     fn visit_whole<W: Sink>(
         &mut self,
         bytes: &[u8],
-        _count: usize,
+        count: usize,
         _transaction: &Transaction,
         _waiting: &mut Waiting,
         _writer: &mut W,
     ) -> Result<(), RunFault> {
         self.wholes = self.wholes.saturating_add(1);
+        self.events_at_once = self.events_at_once.saturating_add(count);
         let _ = self.bytes.try_extend_from_slice(bytes);
         self.append(bytes.strip_suffix(b"P\n").unwrap_or(bytes));
         self.append(b"packet ");

@@ -114,31 +114,3 @@ fn rows_are_told(rt: HostRuntime) -> Result<(), Fail> {
     }
     Ok(())
 }
-
-/// Captures, and how many of their packets are taken at once.
-static WHOLES: [(&[u8], usize); 7] = [
-    (b"S b0 A 03 A P\nS b0 A 03 A P\n", 2),
-    // after comments and separators
-    (b"# 1\n \t\r\n# 2\nS b0 A 03 A P\n", 1),
-    (b"S b0 A 03 A P\n\nS b0 A 03 A P\n", 2),
-    // the first ends in another way
-    (b"S b0 A 03 A P # 1\nS b0 A 03 A P\n", 1),
-    (b"S b0 A 03 A P\r\nS b0 A 03 A P\n", 1),
-    // in a comment, and in one that a piece ends in
-    (b"# S b0 A 03 A P\n", 0),
-    (b"S b0 A 03 A P\n# S b0 A 03 A P", 1),
-];
-
-#[test]
-fn packets_behind_comments_are_taken_at_once(rt: HostRuntime) -> Result<(), Fail> {
-    let profile = Profile::from_toml(rt.alloc(), SAMPLE.as_bytes())?;
-    for (capture, wholes) in WHOLES {
-        let mut scan = Scan::new(&profile);
-        let mut log = Log::default();
-        let mut writer = Io::new(Vec::new(rt.alloc()));
-        let _ = scan.take_words(capture, &mut log, &mut Waiting::new(), &mut writer)?;
-        same(&rt, capture, log.wholes, wholes);
-        same(&rt, capture, log.bytes.as_slice(), capture);
-    }
-    Ok(())
-}

@@ -1,0 +1,3 @@
+pub mod Profiles
+pub mod Stopping
+pub mod Agreeing
