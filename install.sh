@@ -5,7 +5,8 @@
 # pmb-i2cd and libpmb-i2cdev.so, the simulated bus as /dev/i2c-N (docs/i2cd.md).
 #
 #   ./install.sh                  into /usr/local
-#   ./install.sh --uninstall      removes from there what it would install
+#   ./install.sh --firmware       the same, and the libraries for microcontrollers
+#   ./install.sh --uninstall      removes from there all that it would install
 #
 # Variables, in the environment or as words, such as `./install.sh PREFIX=/opt/pmb`:
 #
@@ -15,6 +16,7 @@
 #   INCLUDEDIR    PREFIX/include
 #   MANDIR        PREFIX/share/man
 #   DESTDIR       nothing: a folder in front of all of these, for who makes a package
+#   PROCESSOR     that of this machine: x86_64 or aarch64
 #
 # The status is 0, or 1 where something can't be installed, or 2 for a word that it doesn't know.
 
@@ -38,10 +40,11 @@ usage() {
 
 # Takes the words of the command line.
 parse() {
-    task=put
+    task=put firmware=''
     for word; do
         case $word in
-            --uninstall) task=remove ;;
+            --uninstall) task=remove firmware=yes ;;
+            --firmware) firmware=yes ;;
             --help | -h) sed -n '2,/^$/s/^# \{0,1\}//p' "$root/install.sh" && exit ;;
             PREFIX=*) PREFIX=${word#*=} ;;
             BINDIR=*) BINDIR=${word#*=} ;;
@@ -49,6 +52,7 @@ parse() {
             INCLUDEDIR=*) INCLUDEDIR=${word#*=} ;;
             MANDIR=*) MANDIR=${word#*=} ;;
             DESTDIR=*) DESTDIR=${word#*=} ;;
+            PROCESSOR=*) PROCESSOR=${word#*=} ;;
             *) usage "it knows no word $word" ;;
         esac
     done
@@ -84,11 +88,17 @@ find_folders() {
 
 # ---- what there is
 
-# Fails on a machine where the released files can't run.
-check_machine() {
-    machine=$(uname -sm)
-    [ "$machine" = 'Linux x86_64' ] ||
-        fail "the released program and library are for Linux on x86-64, and this is $machine"
+# Finds the released files for the processor, and fails where there are none.
+find_released() {
+    machine=${PROCESSOR:+Linux }${PROCESSOR:-$(uname -sm)}
+    case $machine in
+        'Linux x86_64') released=release processors='x86_64|amd64|AMD64' ;;
+        'Linux aarch64') released=release/aarch64 processors='aarch64|arm64|ARM64' ;;
+        *)
+            fail "the released program and library are for Linux on x86-64 and on aarch64, and this" \
+                "is $machine"
+            ;;
+    esac
 }
 
 # Fails where a released file is not the one that was committed.
@@ -100,11 +110,17 @@ check_sums() {
     else
         fail 'neither sha256sum nor shasum is on the PATH, so the released files are not checked'
     fi
-    sums=$(cat release/SHA256SUMS) || exit 1
-    found=$(cd release && $sum pmb libpmb.a libpmb.so) || exit 1
+    sums=$(cat $released/SHA256SUMS) || exit 1
+    found=$(cd $released && $sum pmb libpmb.a libpmb.so) || exit 1
     [ "$found" = "$sums" ] ||
-        fail "a file in $root/release is not the one that SHA256SUMS there lists: it is cut off or" \
-            'replaced. Bring it back (git checkout release), or make all anew (release/make)'
+        fail "a file in $root/$released is not the one that SHA256SUMS there lists: it is cut off or" \
+            "replaced. Bring it back (git checkout release), or make all anew ($released/make)"
+    [ -n "$firmware" ] || return 0
+    sums=$(sed 1d release/firmware.sha256) && found=$(cd release && $sum libpmb_firmware-*.a) ||
+        exit 1
+    [ "$found" = "$sums" ] ||
+        fail "a library for microcontrollers in $root/release is not the one of firmware.sha256 there:" \
+            'bring it back (git checkout release), or make all anew (release/firmware)'
 }
 
 # Finds the version, which is the header's, and the names of the shared library: the one that linked
@@ -155,7 +171,9 @@ fill() {
         -e "s|@PREFIX@|$(quoted "$(in_pc "$PREFIX")")|g" \
         -e "s|@LIBDIR@|$(quoted "$(in_prefix "$LIBDIR")")|g" \
         -e "s|@INCLUDEDIR@|$(quoted "$(in_prefix "$INCLUDEDIR")")|g" \
-        -e "s|@HEADERS@|$(quoted "$(headers)")|g" "release/templates/$1.in" >"$made/$1"
+        -e "s|@HEADERS@|$(quoted "$(headers)")|g" \
+        -e "s|@PROCESSORS@|$(quoted "$processors")|g" -e "s|@MACHINE@|$machine|g" \
+        "release/templates/$1.in" >"$made/$1"
 }
 
 # ---- what goes where
@@ -163,10 +181,10 @@ fill() {
 # Calls a function for each installed file: with its mode, what it is a copy of, and its place; or
 # with `link`, what it names, and its place.
 each_file() {
-    "$1" 755 release/pmb "$BINDIR/pmb" &&
+    "$1" 755 "$released/pmb" "$BINDIR/pmb" &&
         "$1" 644 include/pmb.h "$INCLUDEDIR/pmb.h" &&
-        "$1" 644 release/libpmb.a "$LIBDIR/libpmb.a" &&
-        "$1" 755 release/libpmb.so "$LIBDIR/$shared" &&
+        "$1" 644 "$released/libpmb.a" "$LIBDIR/libpmb.a" &&
+        "$1" 755 "$released/libpmb.so" "$LIBDIR/$shared" &&
         "$1" link "$shared" "$LIBDIR/$soname" &&
         "$1" link "$soname" "$LIBDIR/libpmb.so" &&
         "$1" 644 "$made/pmb.pc" "$LIBDIR/pkgconfig/pmb.pc" &&
@@ -175,6 +193,9 @@ each_file() {
         return
     for page in man/*.[13]; do
         "$1" 644 "$page" "$MANDIR/man${page##*.}/${page##*/}" || return
+    done
+    for library in ${firmware:+release/libpmb_firmware-*.a}; do
+        "$1" 644 "$library" "$LIBDIR/${library##*/}" || return
     done
     # (what is removed may have been made by another clone)
     if [ "$1" = remove ] || { [ -e i2cd/out/pmb-i2cd ] && [ -e i2cd/out/libpmb-i2cdev.so ]; }; then
@@ -224,7 +245,7 @@ tell_loader() {
     [ -z "$DESTDIR" ] || return 0
     case $LIBDIR in
         /lib | /lib64 | /usr/lib | /usr/lib64 | /usr/local/lib | /usr/local/lib64 | \
-            /lib/x86_64-linux-gnu | /usr/lib/x86_64-linux-gnu | /usr/local/lib/x86_64-linux-gnu)
+            /lib/*-linux-gnu | /usr/lib/*-linux-gnu | /usr/local/lib/*-linux-gnu)
             if [ "$(id -u)" != 0 ]; then
                 echo "install.sh: with glibc, call ldconfig as root, so that the loader looks anew"
             elif command -v ldconfig >/dev/null; then
@@ -246,9 +267,9 @@ parse "$@"
 find_folders
 cd "$root" || exit 1
 find_version
-made=''
+made='' released=release
 if [ "$task" = put ]; then
-    check_machine
+    find_released
     check_sums
     made=$(mktemp -d) || exit 1
     trap 'rm -rf "$made"' EXIT

@@ -11,7 +11,8 @@
 #include <unistd.h>
 
 /* Where the shim is, from the program's own folder. */
-static const char *const places[] = { "", "../lib/", "../lib64/", "../lib/x86_64-linux-gnu/" };
+static const char *const places[] = { "", "../lib/", "../lib64/", "../lib/x86_64-linux-gnu/",
+                                      "../lib/aarch64-linux-gnu/" };
 
 /* Writes the path of this program's folder, with a `/` at its end. */
 static int own_folder(char *path, size_t room)

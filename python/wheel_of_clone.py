@@ -1,16 +1,23 @@
 """Builds the wheel of a clone: the package, and in it the released library and program.
 
-It needs nothing but Python, so `pip install ./python` fetches nothing.
+It needs nothing but Python, so `pip install ./python` fetches nothing. The wheel is one for the
+processor of this machine, or for the one that `pip wheel -C processor=aarch64 ./python` names.
 """
 
 import base64
 import hashlib
 import os
+import platform
 import stat
+import sys
 import zipfile
 
 HERE = os.path.dirname(os.path.abspath(__file__))
-RELEASE = os.path.join(HERE, os.pardir, "release")
+# The released files for each processor.
+RELEASES = {
+    "x86_64": os.path.join(HERE, os.pardir, "release"),
+    "aarch64": os.path.join(HERE, os.pardir, "release", "aarch64"),
+}
 VERSION = "0.1.0"
 INFO = "pmb-{}.dist-info".format(VERSION)
 METADATA = """Metadata-Version: 2.1
@@ -22,11 +29,11 @@ Provides-Extra: cluster
 Requires-Dist: distributed; extra == "cluster"
 """.format(VERSION)
 # What the library needs is in glibc 2.17 and in musl.
-SYSTEMS = ("manylinux_2_17_x86_64", "manylinux2014_x86_64", "musllinux_1_1_x86_64")
+SYSTEMS = ("manylinux_2_17_{}", "manylinux2014_{}", "musllinux_1_1_{}")
 WHEEL = """Wheel-Version: 1.0
 Generator: wheel_of_clone
 Root-Is-Purelib: false
-""" + "".join("Tag: py3-none-{}\n".format(system) for system in SYSTEMS)
+"""
 
 
 def read(path):
@@ -34,17 +41,30 @@ def read(path):
         return file.read()
 
 
-def files():
+def processor_of(config_settings):
+    """The processor that the wheel is for. Where there is no library for it, pip shows the sentence."""
+    found = (config_settings or {}).get("processor", platform.machine())
+    bits = 64 if sys.maxsize > 2 ** 32 else 32
+    if found not in RELEASES or sys.platform != "linux" or bits != 64:
+        sys.exit(
+            "pmb is there for 64-bit Python on Linux, for the processors {}, and this is {}-bit"
+            " Python on {}, for {}".format(" and ".join(RELEASES), bits, sys.platform, found)
+        )
+    return found
+
+
+def files(release, systems):
     """Each file of the wheel but the last: its name, its mode and its bytes."""
     package = os.path.join(HERE, "pmb")
     for name in sorted(os.listdir(package)):
         if name.endswith((".py", ".typed")):
             yield "pmb/" + name, 0o644, read(os.path.join(package, name))
-    yield "pmb/libpmb.so", 0o755, read(os.path.join(RELEASE, "libpmb.so"))
+    yield "pmb/libpmb.so", 0o755, read(os.path.join(release, "libpmb.so"))
     # (python3 -m pmb starts it)
-    yield "pmb/pmb", 0o755, read(os.path.join(RELEASE, "pmb"))
+    yield "pmb/pmb", 0o755, read(os.path.join(release, "pmb"))
     yield INFO + "/METADATA", 0o644, METADATA.encode()
-    yield INFO + "/WHEEL", 0o644, WHEEL.encode()
+    tags = "".join("Tag: py3-none-{}\n".format(system) for system in systems)
+    yield INFO + "/WHEEL", 0o644, (WHEEL + tags).encode()
 
 
 def entry(path, mode):
@@ -56,10 +76,12 @@ def entry(path, mode):
 
 
 def build_wheel(wheel_directory, config_settings=None, metadata_directory=None):
-    name = "pmb-{}-py3-none-{}.whl".format(VERSION, ".".join(SYSTEMS))
+    processor = processor_of(config_settings)
+    systems = [system.format(processor) for system in SYSTEMS]
+    name = "pmb-{}-py3-none-{}.whl".format(VERSION, ".".join(systems))
     record = ""
     with zipfile.ZipFile(os.path.join(wheel_directory, name), "w") as wheel:
-        for path, mode, content in files():
+        for path, mode, content in files(RELEASES[processor], systems):
             wheel.writestr(entry(path, mode), content)
             digest = base64.urlsafe_b64encode(hashlib.sha256(content).digest()).rstrip(b"=")
             record += "{},sha256={},{}\n".format(path, digest.decode(), len(content))

@@ -9,6 +9,10 @@ newline='
 # shellcheck disable=SC2034 # (who reads it asks for this)
 if [ -x "$root/tools/rt" ]; then rt=$root/tools/rt; else rt=rt; fi
 
+# The released files for this machine: those for aarch64 stand in a folder of their own.
+machine=$(uname -sm)
+case $machine in 'Linux aarch64') ours=$root/release/aarch64 ;; *) ours=$root/release ;; esac
+
 # Tells why nothing can be run, and ends with the launcher's own status.
 fail() {
     echo "pmb: $*" >&2
@@ -55,7 +59,7 @@ find_sum() {
         sum='shasum -a 256'
     else
         fail "neither sha256sum nor shasum is on the PATH, and without one nobody knows whether" \
-            "the released program is that of these sources ($root/release/pmb runs without this)"
+            "the released program is that of these sources ($ours/pmb runs without this)"
     fi
 }
 
@@ -95,7 +99,7 @@ digest() (
     esac
     is_digest "$found" ||
         fail "the sources can't be compared with those of the released program: not all of them" \
-            "can be read, or memory is short ($root/release/pmb runs without this)"
+            "can be read, or memory is short ($ours/pmb runs without this)"
     echo "$found"
 )
 
@@ -108,8 +112,8 @@ list_files() {
         -o -type f -printf '%C@ %T@ %i %s %p\n' 2>/dev/null
 }
 
-# Finds the digest of the sources (`sources`) and the one that release/sources.sha256 has
-# (`released`). Where these are the same, the released files are those of release/SHA256SUMS.
+# Finds the digest of the sources (`sources`) and the one that sources.sha256 beside the released
+# files has (`released`). Where these are the same, the released files are those of SHA256SUMS there.
 #
 # A look takes longer than all else in a start, so the last one is kept in release/out/seen: its
 # digest, and below it the list of the files. It counts while the list is the same, to the letter.
@@ -118,9 +122,9 @@ list_files() {
 # (BusyBox), each look is a new one.
 take_look() {
     seen=$root/release/out/seen sources='' released=''
-    { read -r released <"$root/release/sources.sha256"; } 2>/dev/null
+    { read -r released <"$ours/sources.sha256"; } 2>/dev/null
     is_digest "$released" ||
-        fail "$root/release/sources.sha256 is cut off or can't be read: bring it back" \
+        fail "$ours/sources.sha256 is cut off or can't be read: bring it back" \
             "(git checkout release)"
     { read -r sources <"$seen"; } 2>/dev/null
     if is_digest "$sources" && { echo "$sources" && list_files; } | cmp -s - "$seen" 2>/dev/null
@@ -160,21 +164,21 @@ keep_look() {
     ' "$new"; } >"$new.kept" && mv -f "$new.kept" "$seen" && rm -f "$seen".*
 }
 
-# Fails where a released file is not the one of release/SHA256SUMS.
+# Fails where a released file is not the one of SHA256SUMS.
 check_released() {
     find_sum
-    sums=$(cat "$root/release/SHA256SUMS" 2>/dev/null)
-    found=$(CDPATH='' cd "$root/release/" && $sum pmb libpmb.a libpmb.so 2>/dev/null)
+    sums=$(cat "$ours/SHA256SUMS" 2>/dev/null)
+    found=$(CDPATH='' cd "$ours/" && $sum pmb libpmb.a libpmb.so 2>/dev/null)
     if [ -n "$found" ] && [ "$found" = "$sums" ]; then return; fi
     # One is missing, which is no fault, or is another file.
     for file in pmb libpmb.a libpmb.so; do
-        [ -e "$root/release/$file" ] || continue
-        line=$(CDPATH='' cd "$root/release/" && $sum "$file")
+        [ -e "$ours/$file" ] || continue
+        line=$(CDPATH='' cd "$ours/" && $sum "$file")
         case $newline$sums$newline in
             *"$newline${line:-none}$newline"*) continue ;;
         esac
         rm -f "$new" 2>/dev/null
-        fail "$root/release/$file is not the file that SHA256SUMS there lists: one of the two is" \
+        fail "$ours/$file is not the file that SHA256SUMS there lists: one of the two is" \
             "cut off or replaced. Bring them back (git checkout release)"
     done
 }

@@ -7,6 +7,7 @@ start, the exit status is 125, as it is of the program's launcher.
 """
 
 import os
+import platform
 import signal
 import sys
 from typing import List
@@ -16,6 +17,8 @@ from ._library import released
 # What starts a program that may be read and not executed, and where there is no glibc. Each is a
 # name that the system gives to it.
 _LOADERS = ("/lib64/ld-linux-x86-64.so.2", "/lib/ld-musl-x86_64.so.1")
+if platform.machine() == "aarch64":
+    _LOADERS = ("/lib/ld-linux-aarch64.so.1", "/lib/ld-musl-aarch64.so.1")
 
 
 def _started(program: str) -> List[str]:

@@ -75,7 +75,8 @@ def released() -> str:
     here = os.path.dirname(os.path.abspath(__file__))
     if os.path.exists(os.path.join(here, "libpmb.so")):
         return here
-    return os.path.join(os.path.dirname(os.path.dirname(here)), "release")
+    release = os.path.join(os.path.dirname(os.path.dirname(here)), "release")
+    return os.path.join(release, "aarch64") if platform.machine() == "aarch64" else release
 
 
 # What an older library lacks.
@@ -87,9 +88,8 @@ def _load() -> ctypes.CDLL:
         library = ctypes.CDLL(os.path.join(released(), "libpmb.so"))
     except OSError as error:
         raise ImportError(
-            "pmb needs 64-bit Python on Linux and x86-64, and this is {} on {}: {}".format(
-                sys.platform, platform.machine(), error
-            )
+            "pmb needs 64-bit Python on Linux and x86-64 or aarch64, and this is {} on {}: {}"
+            "".format(sys.platform, platform.machine(), error)
         ) from None
     status, byte, size = ctypes.c_int32, ctypes.c_uint8, ctypes.c_size_t
     format_at, quantity_at = ctypes.POINTER(Format), ctypes.POINTER(Quantity)
