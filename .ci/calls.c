@@ -436,11 +436,17 @@ static int texts_out(void)
     EXPECT(!writes(write_status, PMB_ZERO_DENOMINATOR, 0, PMB_OK, "PMB_ZERO_DENOMINATOR"));
     EXPECT(!writes(write_status, PMB_OFF, 0, PMB_OK, "PMB_OFF"));
     EXPECT(!writes(write_status, PMB_CLOSED, 0, PMB_OK, "PMB_CLOSED"));
-    EXPECT(!writes(write_status, PMB_BUSY + 1, 0, PMB_NO_NAME, ""));
+    EXPECT(!writes(write_status, PMB_BAD_DIGITS, 0, PMB_OK, "PMB_BAD_DIGITS"));
+    EXPECT(!writes(write_status, PMB_BAD_DEVICE, 0, PMB_OK, "PMB_BAD_DEVICE"));
+    EXPECT(!writes(write_status, PMB_BAD_SOURCE, 0, PMB_OK, "PMB_BAD_SOURCE"));
+    EXPECT(!writes(write_status, PMB_BAD_RATE, 0, PMB_OK, "PMB_BAD_RATE"));
+    EXPECT(!writes(write_status, PMB_SIGROK_ONLY, 0, PMB_OK, "PMB_SIGROK_ONLY"));
+    EXPECT(!writes(write_status, PMB_NO_BUS, 0, PMB_OK, "PMB_NO_BUS"));
+    EXPECT(!writes(write_status, PMB_NO_BUS + 1, 0, PMB_NO_NAME, ""));
     EXPECT(!writes(write_status, -1, 0, PMB_NO_NAME, ""));
     EXPECT(!writes(write_status, INT32_MIN, 0, PMB_NO_NAME, ""));
     EXPECT(!writes(write_status, INT32_MAX, 0, PMB_NO_NAME, ""));
-    for (code = 0; code <= PMB_BUSY; code++) {
+    for (code = 0; code <= PMB_NO_BUS; code++) {
         char text[PMB_MOST_STATUS_NAME + 1];
         size_t length;
         EXPECT(pmb_status_name(code, text, sizeof text, &length) == PMB_OK);
@@ -516,15 +522,17 @@ static int give(reading *found, const char *piece, size_t length)
 
 static int end_text(reading *found)
 {
+    const uint64_t used = found->lexer.used;
     pmb_event event = {9, 9};
     found->status = pmb_lex_end(&found->lexer, &event);
+    if (found->lexer.used != used) return 0;
     if (found->status == PMB_OK) return add_event(found, event);
     return event.kind == 9 && event.byte == 9;
 }
 
-/* Whether a text has these events and then this status, and where its bad token is: cut in each two
- * places, and byte by byte. */
-static int reads(const char *text, const char *events, int32_t status, uint64_t at)
+/* Whether a text has these events and then this status, where its bad token is, and how many bytes were
+ * used: cut in each two places, and byte by byte. */
+static int reads(const char *text, const char *events, int32_t status, uint64_t at, uint64_t used)
 {
     const size_t length = strlen(text);
     size_t first, second;
@@ -546,7 +554,7 @@ static int reads(const char *text, const char *events, int32_t status, uint64_t 
             EXPECT(strcmp(found.events, events) == 0);
             EXPECT(found.status == status);
             EXPECT(status != PMB_BAD_TOKEN || found.lexer.at == at);
-            EXPECT(status == PMB_BAD_TOKEN || found.lexer.used == length);
+            EXPECT(found.lexer.used == used);
         }
     return 0;
 }
@@ -570,22 +578,24 @@ static int events(void)
 {
     static const char *const bad[] = {"Q", "s ", "S b0A", "S 1 ", "S 1", "SS", "0g", "#\nx", "b0#\n1#"};
     static const uint64_t places[] = {0, 0, 2, 2, 2, 0, 0, 2, 4};
+    static const uint64_t counts[] = {0, 0, 4, 3, 3, 1, 1, 2, 5};
     size_t i;
     EXPECT(sizeof(pmb_lexer) == 24 && sizeof(pmb_event) == 2);
-    EXPECT(!reads("", "", PMB_NO_EVENT, 0));
-    EXPECT(!reads("S b0 A 21 A 00 N P\n", "S b0 A 21 A 00 N P ", PMB_NO_EVENT, 0));
-    EXPECT(!reads("  S\tB0\r\nA", "S b0 A ", PMB_OK, 0));
-    EXPECT(!reads("#S\n\nS# A S\nfF#P", "S ff ", PMB_NO_EVENT, 0));
-    EXPECT(!reads("S ## #\n#\n 0f#", "S 0f ", PMB_NO_EVENT, 0));
-    EXPECT(!reads("S 0f", "S 0f ", PMB_OK, 0));
-    EXPECT(!reads("S b0 A zz A", "S b0 A ", PMB_BAD_TOKEN, 7));
-    EXPECT(!reads("S # b0 0\n b00 P", "S ", PMB_BAD_TOKEN, 10));
-    EXPECT(!reads("S b0 A 2", "S b0 A ", PMB_BAD_TOKEN, 7));
+    EXPECT(!reads("", "", PMB_NO_EVENT, 0, 0));
+    EXPECT(!reads("S b0 A 21 A 00 N P\n", "S b0 A 21 A 00 N P ", PMB_NO_EVENT, 0, 19));
+    EXPECT(!reads("  S\tB0\r\nA", "S b0 A ", PMB_OK, 0, 9));
+    EXPECT(!reads("#S\n\nS# A S\nfF#P", "S ff ", PMB_NO_EVENT, 0, 15));
+    EXPECT(!reads("S ## #\n#\n 0f#", "S 0f ", PMB_NO_EVENT, 0, 13));
+    EXPECT(!reads("S 0f", "S 0f ", PMB_OK, 0, 4));
+    EXPECT(!reads("S b0 A zz A", "S b0 A ", PMB_BAD_TOKEN, 7, 7));
+    EXPECT(!reads("S # b0 0\n b00 P", "S ", PMB_BAD_TOKEN, 10, 12));
+    EXPECT(!reads("S b0 A 2", "S b0 A ", PMB_BAD_TOKEN, 7, 8));
     for (i = 0; i < sizeof bad / sizeof *bad; i++) {
         reading found;
         begin(&found);
         EXPECT(give(&found, bad[i], strlen(bad[i])) && end_text(&found));
         EXPECT(found.status == PMB_BAD_TOKEN && found.lexer.at == places[i]);
+        EXPECT(found.lexer.used == counts[i]);
         EXPECT(!stays_bad(found.lexer));
     }
     return 0;
@@ -599,33 +609,67 @@ static int is_one_of(const char *characters, unsigned byte)
     return 0;
 }
 
-/* Whether some text leaves these numbers in a lexer. */
+/* Whether some text leaves these numbers in a lexer, as far as they count at its place. Between words
+ * any do. In a comment one byte or more was used, the `#`. A word has bytes of a token, and as many
+ * were used since it began. */
 static int is_at_a_text(const pmb_lexer *lexer)
 {
     static const char tokens[] = "SPAN0123456789abcdefABCDEF";
     const unsigned word = lexer->place == 2 ? 1 : 2;
-    if (lexer->place < 2) return 1;
+    if (lexer->place == 0) return 1;
+    if (lexer->place == 1) return lexer->used > 0;
     if (lexer->place > 3) return 0;
     if (lexer->used != (lexer->at > UINT64_MAX - word ? UINT64_MAX : lexer->at + word)) return 0;
     if (word == 1) return is_one_of(tokens, lexer->first);
     return is_one_of(tokens + 4, lexer->first) && is_one_of(tokens + 4, lexer->second);
 }
 
-/* A lexer with these numbers reads a text in the same way, whole and byte by byte. */
+/* Gives a new lexer a text that leaves these numbers: spaces, and then nothing, a `#` or the word. */
+static int goes_there(reading *found, const pmb_lexer *numbers)
+{
+    char word[2];
+    const size_t length = numbers->place == 0 ? 0 : numbers->place == 3 ? 2 : 1;
+    word[0] = numbers->place == 1 ? '#' : (char)numbers->first;
+    word[1] = (char)numbers->second;
+    begin(found);
+    while (found->lexer.used + length < numbers->used) EXPECT(give(found, " ", 1));
+    EXPECT(give(found, word, length) && found->status == PMB_NO_EVENT && found->count == 0);
+    EXPECT(found->lexer.used == numbers->used && found->lexer.place == numbers->place);
+    if (numbers->place < 2) return 0;
+    EXPECT(found->lexer.at == numbers->at && found->lexer.first == numbers->first);
+    EXPECT(numbers->place == 2 || found->lexer.second == numbers->second);
+    return 0;
+}
+
+/* A lexer with these numbers reads a text in the same way, whole and byte by byte, and as one that was
+ * given a text that leaves them. */
 static int reads_on(pmb_lexer lexer, const char *text)
 {
     const size_t length = strlen(text);
-    reading whole, cut;
+    reading whole, ways[2];
     size_t i;
     begin(&whole);
-    begin(&cut);
-    whole.lexer = cut.lexer = lexer;
+    begin(&ways[0]);
+    whole.lexer = ways[0].lexer = lexer;
+    EXPECT(!goes_there(&ways[1], &lexer));
     EXPECT(give(&whole, text, length) && end_text(&whole));
-    for (i = 0; i < length; i++) EXPECT(give(&cut, text + i, 1));
-    EXPECT(end_text(&cut));
-    EXPECT(strcmp(whole.events, cut.events) == 0 && whole.status == cut.status);
-    EXPECT(whole.status != PMB_BAD_TOKEN || whole.lexer.at == cut.lexer.at);
-    EXPECT(whole.status == PMB_BAD_TOKEN || whole.lexer.used == cut.lexer.used);
+    for (i = 0; i < length; i++) EXPECT(give(&ways[0], text + i, 1));
+    EXPECT(give(&ways[1], text, length));
+    for (i = 0; i < 2; i++) {
+        EXPECT(end_text(&ways[i]));
+        EXPECT(strcmp(whole.events, ways[i].events) == 0 && whole.status == ways[i].status);
+        EXPECT(whole.status != PMB_BAD_TOKEN || whole.lexer.at == ways[i].lexer.at);
+        EXPECT(whole.lexer.used == ways[i].lexer.used);
+    }
+    return 0;
+}
+
+/* It is not refused. */
+static int is_accepted(pmb_lexer lexer)
+{
+    pmb_event event;
+    size_t used = 999;
+    EXPECT(pmb_lex(&lexer, "", 0, &used, &event) == PMB_NO_EVENT && used == 0);
     return 0;
 }
 
@@ -633,23 +677,28 @@ static int reads_on(pmb_lexer lexer, const char *text)
 static int any_numbers(void)
 {
     static const char *const texts[] = {"", "A", " ", "#", "\n", "0 b0", "zz", "P b0 ", "#\nS", "S0"};
+    static const uint64_t counts[] = {0, 1, 2, 10, UINT64_MAX - 1, UINT64_MAX};
+    const size_t all = sizeof texts / sizeof *texts;
     unsigned place, bytes, word;
-    size_t i;
+    size_t count, i;
     for (place = 0; place < 8; place++)
-        for (bytes = 0; bytes < 65536; bytes += place == 3 ? 7 : 257)
-            for (word = 0; word < 4; word++) {
-                pmb_lexer lexer;
-                memset(&lexer, 0, sizeof lexer);
-                lexer.used = bytes % 5 ? 1000 : UINT64_MAX - bytes % 4;
-                lexer.at = bytes % 20 ? lexer.used - word : UINT64_MAX;
-                lexer.place = (uint8_t)place;
-                lexer.first = (uint8_t)(bytes >> 8);
-                lexer.second = (uint8_t)bytes;
-                if (!is_at_a_text(&lexer)) EXPECT(!stays_bad(lexer));
-                else if (lexer.used == 1000)
-                    for (i = 0; i < sizeof texts / sizeof *texts; i++)
-                        EXPECT(!reads_on(lexer, texts[i]));
-            }
+        for (bytes = 0; bytes < 65536; bytes += place == 3 ? 17 : 257)
+            for (count = 0; count < sizeof counts / sizeof *counts; count++)
+                for (word = 0; word < 4; word++) {
+                    /* (where no word is under way, one of the texts for each two bytes) */
+                    const size_t step = place < 2 ? all : 1;
+                    pmb_lexer lexer;
+                    memset(&lexer, 0, sizeof lexer);
+                    lexer.used = counts[count];
+                    lexer.at = bytes % 20 ? lexer.used - word : UINT64_MAX;
+                    lexer.place = (uint8_t)place;
+                    lexer.first = (uint8_t)(bytes >> 8);
+                    lexer.second = (uint8_t)bytes;
+                    if (!is_at_a_text(&lexer)) EXPECT(!stays_bad(lexer));
+                    else EXPECT(!is_accepted(lexer));
+                    if (!is_at_a_text(&lexer) || lexer.used > 10) continue;
+                    for (i = bytes % step; i < all; i += step) EXPECT(!reads_on(lexer, texts[i]));
+                }
     return 0;
 }
 
@@ -696,6 +745,7 @@ static int far_offsets(void)
     EXPECT(pmb_lex(&lexer, "S b", 3, &used, &event) == PMB_OK && lexer.used == UINT64_MAX);
     EXPECT(pmb_lex(&lexer, "b", 1, &used, &event) == PMB_NO_EVENT && lexer.used == UINT64_MAX);
     EXPECT(pmb_lex(&lexer, "z", 1, &used, &event) == PMB_BAD_TOKEN && lexer.at == UINT64_MAX);
+    EXPECT(lexer.used == UINT64_MAX);
     return 0;
 }
 

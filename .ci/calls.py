@@ -806,6 +806,34 @@ def compare_choices(program):
     check(len(found) == 4, f"{found}")
 
 
+def compare_recorders(program):
+    """Of what no recording is, the fault that the program names: its name, its place, and which is first."""
+    found = collections.Counter()
+    sources, rates = (*pmb._SOURCES, "awk"), (None, 0, 1, 18446744073, 18446744074, 1 << 64)
+    for source, bus, rate, unshifted in itertools.product(sources, (None, "0"), rates, (False, True)):
+        words = ["import", source] + ["--unshifted"] * unshifted
+        words += [] if bus is None else ["--bus", bus]
+        words += [] if rate is None else ["--rate", str(rate)]
+        ran = subprocess.run([program, *words], input=b"", capture_output=True)
+        places = {
+            "BadSource": "source",
+            "BadRate": "rate",
+            "SigrokOnly": "unshifted" if rate is None else "rate",
+            "NoBus": "bus",
+        }
+        fault = ""
+        try:
+            pmb.imported(source, "", bus, rate, unshifted)
+        except pmb.Error as error:
+            fault = f"pmb: import: {error.fault}"
+            check(error.place == places[error.fault], f"{words}: {error.place}")
+            check(str(error).startswith(f"{error.fault} in {error.place}: "), f"{words}: {error}")
+        check(fault == ran.stderr.decode().strip(), f"{words}: {fault!r}, and not {ran.stderr!r}")
+        check((ran.returncode == 2) == bool(fault), f"{words}: status {ran.returncode}")
+        found[fault] += 1
+    check(len(found) == 5, f"{found}")
+
+
 class Index:
     """What Python takes as an int, as it does numbers of numpy."""
 
@@ -854,9 +882,13 @@ def compare_names_of_arguments():
         ("requests is a str or bytes, not list", pmb.run, PLAIN, []),
         ("text is a str or bytes, not NoneType", pmb.imported, "kernel", None),
         ("bus is a str or bytes, not int", pmb.imported, "kernel", "", 0),
-        ("rate is from 1 to 18446744073, not 0", pmb.imported, "sigrok", "", None, 0),
+        ("BadRate in rate: from 1 to 18446744073, not 0", pmb.imported, "sigrok", "", None, 0),
+        ("rate is an int, not str", pmb.imported, "awk", "", None, "1"),
         ("source is a str, not bytes", pmb.imported, b"kernel", ""),
-        ("source is one of sigrok, saleae, beagle, kernel, smbus, not 'awk'", pmb.imported, "awk", ""),
+        ("BadSource in source: one of sigrok, saleae, beagle, kernel, smbus, not 'awk'", pmb.imported, "awk", ""),
+        ("SigrokOnly in rate: the source is 'kernel'", pmb.imported, "kernel", "", None, 1, True),
+        ("SigrokOnly in unshifted: the source is 'beagle'", pmb.imported, "beagle", "", "0", None, True),
+        ("NoBus in bus: recordings of 'beagle' have one bus, without a name", pmb.imported, "beagle", "", "0"),
         ("devices is a list of addresses, not int", pmb.json, PLAIN, "", 0x58),
         ("devices is a list of addresses, not str", pmb.json, PLAIN, "", "58"),
         (address + "0xd8 is the 8-bit form of 0x6c", pmb.json, PLAIN, "", [0xD8]),
@@ -1814,6 +1846,8 @@ def main():
     compare_kinds_of_objects(program)
     compare_wrong_types()
     compare_choices(program)
+    if pmb._IMPORT is not None:
+        compare_recorders(program)
     compare_names_of_arguments()
     compare_keys()
     compare_copies()

@@ -123,9 +123,11 @@ static int profiles(void)
     EXPECT(is_status(&told, PMB_OK) && profile.held != NULL);
     if (answers_as_before(&profile)) return 1;
     EXPECT(pmb_profile_json(&profile, "", 0, &wrong, devices, 0, out, sizeof out, &told) == 0);
-    EXPECT(is_status(&told, PMB_BAD_CHOICE));
+    EXPECT(is_status(&told, PMB_BAD_DIGITS));
     EXPECT(pmb_profile_json(&profile, "", 0, choices, eight_bits, 1, out, sizeof out, &told) == 0);
-    EXPECT(is_status(&told, PMB_BAD_CHOICE));
+    EXPECT(is_status(&told, PMB_BAD_DEVICE));
+    EXPECT(pmb_profile_json(&third, "", 0, choices, eight_bits, 1, out, sizeof out, &told) == 0);
+    EXPECT(is_status(&told, PMB_BAD_DEVICE));
     /* Each of several handles outlives the others. */
     EXPECT(pmb_profile_share(&profile, &other) == PMB_OK);
     EXPECT(pmb_profile_share(&other, &third) == PMB_OK);
@@ -258,8 +260,13 @@ static int readers(void)
     EXPECT(pmb_reader_open(&reader, &profile, choices, devices, 1) == PMB_OK);
     EXPECT(pmb_reader_take(&reader, out, MOST, &told) == 0 && told.packets == 0);
     {
-        static const pmb_choice wrong = {6, 3, PMB_END};
-        EXPECT(pmb_reader_open(&reader, &profile, &wrong, devices, 0) == PMB_BAD_CHOICE);
+        static const pmb_choice wrong[] = {{6, 3, PMB_END}, {13, PMB_LATE, PMB_END}};
+        static const uint8_t eight_bits[] = {0x58, 0x80};
+        EXPECT(pmb_reader_open(&reader, &profile, &wrong[0], eight_bits, 2) == PMB_BAD_CHOICE);
+        EXPECT(reader.held == NULL);
+        EXPECT(pmb_reader_open(&reader, &profile, &wrong[1], eight_bits, 2) == PMB_BAD_DIGITS);
+        EXPECT(reader.held == NULL);
+        EXPECT(pmb_reader_open(&reader, &profile, choices, eight_bits, 2) == PMB_BAD_DEVICE);
         EXPECT(reader.held == NULL);
     }
     pmb_profile_close(&profile);

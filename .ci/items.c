@@ -582,10 +582,11 @@ static int kinds_of_readers(void)
     for (i = 0; i < 3; i++) {
         EXPECT(pmb_reader_open_items(&reader, &profile, choices, NULL, 0) == PMB_OK);
         EXPECT(reader.held != NULL);
-        EXPECT(pmb_reader_open_items(&reader, &profile, &wrong[i], NULL, 0) == PMB_BAD_CHOICE);
+        EXPECT(pmb_reader_open_items(&reader, &profile, &wrong[i], NULL, 0)
+               == (i == 0 ? PMB_BAD_DIGITS : PMB_BAD_CHOICE));
         EXPECT(reader.held == NULL);
     }
-    EXPECT(pmb_reader_open_items(&reader, &profile, choices, eight_bits, 2) == PMB_BAD_CHOICE);
+    EXPECT(pmb_reader_open_items(&reader, &profile, choices, eight_bits, 2) == PMB_BAD_DEVICE);
     EXPECT(pmb_reader_open_items(&reader, &profile, choices, eight_bits, 1) == PMB_OK);
     pmb_reader_close(&reader);
     pmb_reader_close(&reader);

@@ -302,11 +302,15 @@ static int nested(void)
 
 static int choices(void)
 {
+    static const uint8_t eight_bits[] = {0xb0};
     unsigned digits, start, bad_words;
     for (digits = 0; digits < 256; digits++)
         for (start = 0; start < 256; start = start < 4 ? start + 1 : start + 251)
             for (bad_words = 0; bad_words < 256; bad_words = bad_words < 3 ? bad_words + 1 : 256) {
-                const int says = digits <= 12 && start <= 2 && bad_words <= 1;
+                const int32_t status = start > 2 || bad_words > 1 ? PMB_BAD_CHOICE
+                                       : digits > 12             ? PMB_BAD_DIGITS
+                                                                 : PMB_NO_ROOM;
+                const int says = status == PMB_NO_ROOM;
                 pmb_choice choice;
                 char bytes[8] = "~~~~~~~";
                 pmb_result told;
@@ -315,11 +319,11 @@ static int choices(void)
                 choice.bad_words = (uint8_t)bad_words;
                 /* (the choice is looked at before the profile, here one of no device) */
                 pmb_json("device=[]", 9, "", 0, &choice, none, 0, bytes, 0, &told);
-                EXPECT(told.status == (says ? PMB_NO_ROOM : PMB_BAD_CHOICE));
-                if (!says) EXPECT(tells(&told, PMB_BAD_CHOICE, 0, -1, -1, 0, 0, 0));
+                EXPECT(told.status == status);
+                if (!says) EXPECT(tells(&told, status, 0, -1, -1, 0, 0, 0));
                 if (!says && digits < 16) {
-                    pmb_json("", 0, "", 0, &choice, none, 0, bytes, sizeof bytes, &told);
-                    EXPECT(told.status == PMB_BAD_CHOICE && strcmp(bytes, "~~~~~~~") == 0);
+                    pmb_json("", 0, "", 0, &choice, eight_bits, 1, bytes, sizeof bytes, &told);
+                    EXPECT(told.status == status && strcmp(bytes, "~~~~~~~") == 0);
                 }
             }
     return 0;
@@ -340,7 +344,7 @@ static int addresses(void)
             if (address < 0x80)
                 EXPECT(tells(&told, PMB_BAD_PROFILE, PMB_MISSING_KEY, -1, -1, 0, 0, 0));
             else
-                EXPECT(tells(&told, PMB_BAD_CHOICE, 0, -1, -1, 0, 0, 0));
+                EXPECT(tells(&told, PMB_BAD_DEVICE, 0, -1, -1, 0, 0, 0));
         }
     return 0;
 }
@@ -445,20 +449,28 @@ static int imports_of(const struct recorded *it)
 }
 
 /* What the program refuses, and fields out of range. */
-static const pmb_recorder bad_recorders[] = {
-    {0, 5, 0, 0},
-    {0, 255, 0, 0},
-    {0, PMB_KERNEL, 2, 0},
-    {0, PMB_SIGROK, 0, 2},
-    {UINT64_C(18446744074), PMB_SIGROK, 0, 0},
-    {UINT64_MAX, PMB_SIGROK, 0, 0},
-    {1, PMB_SALEAE, 0, 0},
-    {1, PMB_BEAGLE, 0, 0},
-    {1, PMB_KERNEL, 0, 0},
-    {1, PMB_SMBUS, 0, 0},
-    {0, PMB_SALEAE, 0, 1},
-    {0, PMB_KERNEL, 0, 1},
-    {0, PMB_BEAGLE, 1, 0},
+static const struct {
+    pmb_recorder recorder;
+    int32_t status;
+} bad_recorders[] = {
+    {{0, 5, 0, 0}, PMB_BAD_SOURCE},
+    {{0, 255, 0, 0}, PMB_BAD_SOURCE},
+    {{UINT64_MAX, 5, 2, 2}, PMB_BAD_SOURCE},
+    {{0, PMB_KERNEL, 2, 0}, PMB_BAD_CHOICE},
+    {{0, PMB_SIGROK, 0, 2}, PMB_BAD_CHOICE},
+    {{UINT64_MAX, PMB_BEAGLE, 1, 2}, PMB_BAD_CHOICE},
+    {{UINT64_MAX, PMB_BEAGLE, 255, 1}, PMB_BAD_CHOICE},
+    {{UINT64_C(18446744074), PMB_SIGROK, 0, 0}, PMB_BAD_RATE},
+    {{UINT64_MAX, PMB_SIGROK, 0, 0}, PMB_BAD_RATE},
+    {{UINT64_MAX, PMB_BEAGLE, 1, 1}, PMB_BAD_RATE},
+    {{1, PMB_SALEAE, 0, 0}, PMB_SIGROK_ONLY},
+    {{1, PMB_BEAGLE, 0, 0}, PMB_SIGROK_ONLY},
+    {{1, PMB_BEAGLE, 1, 0}, PMB_SIGROK_ONLY},
+    {{1, PMB_KERNEL, 0, 0}, PMB_SIGROK_ONLY},
+    {{1, PMB_SMBUS, 0, 0}, PMB_SIGROK_ONLY},
+    {{0, PMB_SALEAE, 0, 1}, PMB_SIGROK_ONLY},
+    {{0, PMB_KERNEL, 0, 1}, PMB_SIGROK_ONLY},
+    {{0, PMB_BEAGLE, 1, 0}, PMB_NO_BUS},
 };
 
 static int imports(void)
@@ -470,9 +482,10 @@ static int imports(void)
         char bytes[8] = "~~~~~~~";
         pmb_result told;
         memset(&told, 0x5a, sizeof told);
-        EXPECT(pmb_import(&bad_recorders[i], "", 0, WRITTEN, sizeof WRITTEN - 1, bytes, sizeof bytes,
-                          &told) == 0);
-        EXPECT(tells(&told, PMB_BAD_CHOICE, 0, -1, -1, 0, 0, 0) && strcmp(bytes, "~~~~~~~") == 0);
+        EXPECT(pmb_import(&bad_recorders[i].recorder, "", 0, WRITTEN, sizeof WRITTEN - 1, bytes,
+                          sizeof bytes, &told) == 0);
+        EXPECT(tells(&told, bad_recorders[i].status, 0, -1, -1, 0, 0, 0));
+        EXPECT(strcmp(bytes, "~~~~~~~") == 0);
     }
     return 0;
 }

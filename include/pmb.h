@@ -80,9 +80,8 @@ enum pmb_status {
     PMB_BAD_PROFILE = 17,
     /* malloc or realloc had no memory. */
     PMB_NO_MEMORY = 18,
-    /* A field of pmb_choice is out of range, or the address of a wanted device has more than seven
-     * bits: of the digits and the addresses this is what `pmb json` refuses as BadDigits and
-     * BadAddress. Or pmb_recorder asks for what `pmb import` refuses. */
+    /* A field has a number that says nothing there: of pmb_choice `start` or `bad_words`, of
+     * pmb_recorder `names_bus` or `unshifted`. */
     PMB_BAD_CHOICE = 19,
     /* No event has ended in the text so far. */
     PMB_NO_EVENT = 20,
@@ -99,7 +98,20 @@ enum pmb_status {
     /* The text has ended, or reading has: the handle takes no more of it. */
     PMB_ENDED = 26,
     /* A transfer is under way on the bus: its last message was not sent. */
-    PMB_BUSY = 27
+    PMB_BUSY = 27,
+    /* pmb_choice has more than 12 digits: `pmb json` refuses that as BadDigits. */
+    PMB_BAD_DIGITS = 28,
+    /* The address of a wanted device is over 7fh: `pmb json` refuses that as BadAddress. */
+    PMB_BAD_DEVICE = 29,
+    /* The source of pmb_recorder is none of enum pmb_source: `pmb import` refuses it as BadSource. */
+    PMB_BAD_SOURCE = 30,
+    /* The rate of pmb_recorder is over 18,446,744,073: `pmb import` refuses that as BadRate. */
+    PMB_BAD_RATE = 31,
+    /* A rate, or `unshifted`, for another source than PMB_SIGROK: `pmb import` refuses that as
+     * SigrokOnly. */
+    PMB_SIGROK_ONLY = 32,
+    /* A bus for PMB_BEAGLE: `pmb import` refuses that as NoBus. */
+    PMB_NO_BUS = 33
 };
 
 /* A quantity: an exact fraction, without a unit. What is given may be any fraction, of any signs.
@@ -363,9 +375,8 @@ typedef struct pmb_choice {
  * those of devices at the given addresses are wanted, and all where no address is given. An address
  * has seven bits: 58h, and not b0h. Packets to an address that the profile ignores have objects, and
  * count neither as packets nor as refusals.
- * The status is PMB_BAD_CHOICE, before all others, for a choice with a field out of range, and for
- * an address over 7fh: what `pmb json` refuses as BadDigits and BadAddress before it reads any of its
- * input. */
+ * Before it reads any of its input, the status is the first of PMB_BAD_CHOICE, PMB_BAD_DIGITS and
+ * PMB_BAD_DEVICE that holds, if one does. */
 size_t pmb_json(const char *profile, size_t profile_length, const char *capture,
                 size_t capture_length, const pmb_choice *choice, const uint8_t *devices,
                 size_t devices_length, char *out, size_t room, pmb_result *told);
@@ -396,7 +407,8 @@ typedef struct pmb_recorder {
  * missing. Of the bus only its bytes count, as the recording writes its name; where names_bus is 0
  * they are not read, and the length may be 0. Something is missing where told->refusals is not 0: then
  * `pmb import` has the status 1.
- * The status is PMB_BAD_CHOICE, before all others, for a field out of range. */
+ * Before it reads any of its input, the status is the first of PMB_BAD_SOURCE, PMB_BAD_CHOICE,
+ * PMB_BAD_RATE, PMB_SIGROK_ONLY and PMB_NO_BUS that holds, if one does. */
 size_t pmb_import(const pmb_recorder *recorder, const char *bus, size_t bus_length,
                   const char *recording, size_t recording_length, char *out, size_t room,
                   pmb_result *told);
@@ -474,8 +486,8 @@ typedef struct pmb_reader {
 /* Opens a reader of objects under a profile, with the choices of pmb_json. What the reader held before is
  * closed first. The profile may be closed before the reader. A reader takes 94 KB, and 122 KB while it
  * is opened; the list of devices; and room for what is ready and not taken.
- * Returns PMB_OK; or the first of PMB_BAD_CHOICE, PMB_CLOSED where the profile is, and PMB_NO_MEMORY;
- * then the reader is closed. */
+ * Returns PMB_OK; or the first of PMB_BAD_CHOICE, PMB_BAD_DIGITS, PMB_BAD_DEVICE, PMB_CLOSED where the
+ * profile is, and PMB_NO_MEMORY; then the reader is closed. */
 int32_t pmb_reader_open(pmb_reader *reader, pmb_profile *profile, const pmb_choice *choice,
                         const uint8_t *devices, size_t devices_length);
 
@@ -618,8 +630,8 @@ typedef struct pmb_item {
 
 /* Opens a reader of items under a profile. All else is as for pmb_reader_open. (The digits of the choice
  * make no difference to items.) Each item that is ready takes 680 bytes until it is taken.
- * Returns PMB_OK; or the first of PMB_BAD_CHOICE, PMB_CLOSED where the profile is, and PMB_NO_MEMORY;
- * then the reader is closed. */
+ * Returns PMB_OK; or the first of PMB_BAD_CHOICE, PMB_BAD_DIGITS, PMB_BAD_DEVICE, PMB_CLOSED where the
+ * profile is, and PMB_NO_MEMORY; then the reader is closed. */
 int32_t pmb_reader_open_items(pmb_reader *reader, pmb_profile *profile, const pmb_choice *choice,
                               const uint8_t *devices, size_t devices_length);
 

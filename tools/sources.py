@@ -170,12 +170,12 @@ class Sources:
         body, scope = text[at:end], self.rust_scope(crate, text)
         for first, last in self.blocks(text, "Model", name):
             block = text[first:last]
-            value = re.search(r"ghost Value = \{[^}]*\};", block)
-            if not value:
-                raise Unreadable("%s: the Model of %s has no Value" % (path, name))
+            values = [it for it in self.members(block, path) if it.startswith("ghost Value ")]
+            if len(values) != 1:
+                raise Unreadable("%s: the Model of %s has no Value, or two" % (path, name))
             scope.update(self.uses(block.replace("ghost ", "")))
             head = self.shown(path, at, at).rstrip(" {(;")
-            return Part(name, path, "type", value[0], "", scope, head + "\n    " + value[0])
+            return Part(name, path, "type", values[0], "", scope, head + "\n    " + values[0])
         named = re.search(r"struct \w+[^({;]*\{", body)
         kind = "opaque" if named and not re.search(r"(?m)^ +pub ", body) else "type"
         return Part(name, path, kind, body, "", scope, self.shown(path, at, end - 1))
@@ -221,6 +221,30 @@ class Sources:
             end = closed(text, match.end() - 1)
             text = text[: match.start()] + re.sub(r"[^\n]", " ", text[match.start() : end]) + text[end:]
 
+    @staticmethod
+    def members(block: str, where: str) -> List[str]:
+        """The ghost members of an impl or of a trait, with what they are given. They stand in it directly,
+        and not inside a function."""
+        found, depth, place = [], 0, 0
+        for match in re.finditer(r"[{}]|\bghost (?!use\b)(\w+)", block):
+            if match.start() < place:
+                continue
+            if not match[1]:
+                depth += 1 if match[0] == "{" else -1
+                continue
+            form = re.compile(r"\s*[:=]\s*\{").match(block, match.end())
+            if depth != 1:
+                continue
+            if not form:
+                raise Unreadable("%s: the ghost member %s is in no known form" % (where, match[1]))
+            place = closed(block, form.end() - 1)
+            more = re.compile(r"\s*=\s*\{").match(block, place)
+            place = closed(block, more.end() - 1) if more else place
+            if block[place : place + 1] != ";":
+                raise Unreadable("%s: the ghost member %s is in no known form" % (where, match[1]))
+            found.append(block[match.start() : place + 1])
+        return found
+
     def scope_of(self, crate: str, text: str, block: str) -> Scope:
         ghost = "\n".join(re.findall(r"ghost (use [^;]*;)", self.outside(text) + block))
         return {**self.rust_scope(crate, text), **self.uses(ghost)}
@@ -228,7 +252,7 @@ class Sources:
     def read_impl(self, named: str, crate: str, trait: str, name: str) -> Part:
         for where, text in self.files(crate).items():
             for first, last in self.blocks(text, trait, name):
-                clauses = re.findall(r"ghost \w+ = \{[^}]*\};", text[first:last])
+                clauses = self.members(text[first:last], where)
                 head = self.shown(where, first, first).rstrip(" {")
                 return Part(named, where, "statement", "\n".join(clauses), name,
                             self.scope_of(crate, text, text[first:last]), "\n    ".join([head] + clauses))
@@ -255,7 +279,7 @@ class Sources:
                 raise Unreadable("%s: the contract has no clause %s, or two" % (named, name))
         crate = where.split("/")[1]
         block = text[first : closed(text, text.index("{", first))] if owner else ""
-        members = re.findall(r"ghost \w+: \{[^}]*\};", block)
+        members = self.members(block, where)
         chosen = [each for each in found if not wanted or each[0] in wanted or each[3] == "requires"]
         shown = members + [head] + [textwrap.indent(each[2], "    ").rstrip(";") for each in chosen]
         if block.startswith("impl"):

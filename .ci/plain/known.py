@@ -7,11 +7,14 @@ from .profiles import ALL_PAGES
 UNKNOWN = "unknown"
 RESTORES = (0x12, 0x14, 0x16, 0x18)
 PAGE_PLUS_WRITE = 0x05
+VOUT_MODE = 0x20
 
 
 def untells(code, data):
     """Whether a write leaves VOUT_MODE of its device untold."""
-    return code in RESTORES or (code == PAGE_PLUS_WRITE and data[1:2] == (0x20,))
+    if code == PAGE_PLUS_WRITE:
+        return len(data) > 1 and data[1] in (VOUT_MODE, *RESTORES)
+    return code in RESTORES
 
 
 class Known:

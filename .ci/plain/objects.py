@@ -358,9 +358,14 @@ def read_on(objects, profile, given, choice, first, begin):
     line_end = given.find(b"\n", at)
     if not choice.keep_going or line_end < 0:
         return first, None
+    forget(objects)
+    return first, line_end + 1
+
+
+def forget(objects):
+    """Devices may have been told what nobody knows."""
     objects.known.drop_line()
     objects.told.drop_line()
-    return first, line_end + 1
 
 
 def words_from(given, begin):
@@ -392,12 +397,14 @@ def read_span(objects, profile, span, ends, where):
     address = other_address(profile, span.events)
     if address is not None:
         objects.other(where(span.first + 1), address)
-        return
     for outcome in reading.outcomes(profile, span.events, ends, span.first):
-        if isinstance(outcome, reading.Packet):
+        is_packet = isinstance(outcome, reading.Packet)
+        if address is None and is_packet:
             objects.packet(outcome.starts, outcome.transaction, where)
-        else:
+        elif address is None:
             objects.refusal(outcome, where(outcome.at))
+        if not is_packet and outcome.loses():
+            forget(objects)
 
 
 def other_address(profile, events):

@@ -171,6 +171,15 @@ class Refusal(NamedTuple):
     got: object
     legs: list
 
+    def loses(self):
+        """Whether devices may have been told what nobody knows: in the packet, or in those that are passed
+        over with it. Not so where the packet is to no device, nor in a leg that is read, unless a START
+        comes there."""
+        if self.reason == "ReadFirst" or self.reason == "UnknownDevice" and len(self.legs) == 1:
+            return False
+        is_read = bool(self.legs and self.legs[-1]) and self.legs[-1][0] % 2 == 1
+        return self.got == START or not is_read
+
 
 def outcomes(profile, events, ends, first=0):
     """The packets and the refusals, in order; so many events came before. Where the events end with

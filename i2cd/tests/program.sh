@@ -37,8 +37,9 @@ echo kept >"$temporary/file"
 ends 3 'Address already in use' "$i2cd" "$sample" --socket "$temporary/file"
 [ "$(cat "$temporary/file")" = kept ]
 check $? 'a file that is no socket is replaced'
+# (under nohup HUP is ignored, which what it starts inherits)
 for signal in TERM INT HUP; do
-    start "$socket" "$i2cd" "$sample"
+    start "$socket" env --default-signal=HUP "$i2cd" "$sample"
     end $signal
 done
 start "$socket" "$i2cd" "$sample"

@@ -142,7 +142,7 @@ _FAULTS = {
     23: "NoCode",
     24: "Off",
 }
-_OK, _NO_NAME, _NO_ROOM, _BAD_PROFILE, _NO_MEMORY, _BAD_CHOICE = 0, 15, 16, 17, 18, 19
+_OK, _NO_NAME, _NO_ROOM, _BAD_PROFILE, _NO_MEMORY = 0, 15, 16, 17, 18
 _NO_EVENT, _BAD_TOKEN, _ENDED = 20, 21, 26
 
 # The kinds of events, by the library's numbers.
@@ -167,11 +167,12 @@ _TABLES = ("vr11", "vr12", "vr13", "imvp9", "amd625mv", "nvidia195mv")
 
 
 class Error(ValueError):
-    """A format, a quantity, a code or a choice of objects has a fault.
+    """A format, a quantity, a code, a choice of objects or what is said of a recording has a fault.
 
     `fault` is the fault's name, as the program prints it: `Below`, `BadExponent`, `BadAddress` and so
-    on. `place` is the argument in which it lies: `format`, `quantity`, `code`, `fixed_vout_mode`,
-    `digits` or `devices`. Of the last three the error's text says more.
+    on. `place` is the argument in which it lies: `format`, `quantity`, `code`; of objects
+    `fixed_vout_mode`, `digits` or `devices`; of a recording `source`, `rate`, `unshifted` or `bus`.
+    Of objects and recordings the error's text says more.
 
         >>> import pmb
         >>> try:
@@ -805,9 +806,10 @@ def imported(
     The text has `packets`, how many there are, and `refusals`, how many lines tell that something
     is missing; `# no packets` is one of them. If `refusals` is 0, nothing is missing.
 
-    Raises a `ValueError` for a source or an option that the program refuses: another source, a rate
-    out of range, `rate` or `unshifted` for another source than sigrok, and `bus` for beagle. Where
-    the library is older and has no such call, that is a `NotImplementedError`.
+    Raises an `Error` for what the program refuses, the first of these: `BadSource` for another
+    source, `BadRate` for a rate out of range, `SigrokOnly` for `rate` or `unshifted` with another
+    source than sigrok, and `NoBus` for `bus` with beagle. Where the library is older and has no such
+    call, that is a `NotImplementedError`.
     """
     recorder, name = _recorder(source, bus, rate, unshifted)
     given = _bytes("text", text)
@@ -1403,10 +1405,10 @@ def _index(what: str, number: Any) -> int:
         raise _wrong_type(what, "an int", number) from None
 
 
-def _within(what: str, number: Any, most: int, least: int = 0) -> int:
+def _within(what: str, number: Any, most: int) -> int:
     found = _index(what, number)
-    if not least <= found <= most:
-        raise ValueError("{} is from {} to {}, not {}".format(what, least, most, found))
+    if not 0 <= found <= most:
+        raise ValueError("{} is from 0 to {}, not {}".format(what, most, found))
     return found
 
 
@@ -1485,17 +1487,21 @@ def _choice(
 
 
 def _recorder(source: Any, bus: Any, rate: Any, unshifted: Any) -> Tuple[_Recorder, bytes]:
-    """What wrote a recording, and the name of its bus."""
+    """What wrote a recording, and the name of its bus. Its faults, and their order, are those of the
+    program's flags."""
     if not isinstance(source, str):
         raise _wrong_type("source", "a str", source)
-    if source not in _SOURCES:
-        raise ValueError("source is one of {}, not {!r}".format(", ".join(_SOURCES), source))
     name = b"" if bus is None else _bytes("bus", bus)
-    samples = 0 if rate is None else _within("rate", rate, _MOST_RATE, 1)
+    samples = 0 if rate is None else _index("rate", rate)
+    if source not in _SOURCES:
+        raise Error("BadSource", "source", "one of {}, not {!r}".format(", ".join(_SOURCES), source))
+    if rate is not None and not 1 <= samples <= _MOST_RATE:
+        raise Error("BadRate", "rate", "from 1 to {}, not {}".format(_MOST_RATE, samples))
     if source != "sigrok" and (rate is not None or unshifted):
-        raise ValueError("rate and unshifted are for sigrok alone, not for {}".format(source))
+        place = "unshifted" if rate is None else "rate"
+        raise Error("SigrokOnly", place, "the source is {!r}".format(source))
     if source == "beagle" and bus is not None:
-        raise ValueError("bus is not for beagle, whose recordings have one bus without a name")
+        raise Error("NoBus", "bus", "recordings of 'beagle' have one bus, without a name")
     recorder = _Recorder(
         samples,
         _SOURCES.index(source),

@@ -20,7 +20,7 @@ use Rattle.pmb_firmware.specs.CallStatus.{number_of}
 use Rattle.pmb_firmware.specs.declared.call_status.CallStatus.{CallStatus}
 use Rattle.pmb_firmware.specs.declared.call_status.CallStatus.TheVariants as status
 use Rattle.pmb_c.specs.Result.{result_of, result_of_fault, result_of_status}
-use Rattle.pmb_c.specs.Whole.{StaysUnchosen}
+use Rattle.pmb_c.specs.Whole.{Stays}
 
 -- the profile that a handle holds, if it holds one
 abbrev pub profile_in : Option Held → Option ProfileParts
@@ -75,11 +75,6 @@ Lends from (Ok bus) = profile_in from ≡ Some bus
 Lends from (Err why) =
     ((why ≡ status.Closed) × (profile_in from ≡ None)) ⊎ ((why ≡ status.NoMemory) × HoldsProfile from)
 
--- nothing was done, for this reason
-pub record Stays (why : CallStatus) (before after : List ℕ) (told : PmbResult) : Type 0 where
-  pub room : after ≡ before
-  pub tells : told ≡ result_of_status why
-
 -- The job's text for an input under the profile that is held stands in the room, or the room stays.
 pub data AnswersUnder (job : ProfileParts → Job Tally) (from : Option Held) (input before after : List ℕ)
     (told : PmbResult) : Type 0 where
@@ -91,7 +86,8 @@ pub data AnswersUnder (job : ProfileParts → Job Tally) (from : Option Held) (i
       → AnswersUnder job from input before after told
 
 -- as JSON, of devices at these addresses, and as it is chosen
-abbrev pub AnswersJsonUnder : Option JsonChoice → List ℕ → Option Held → List ℕ → List ℕ → List ℕ → PmbResult → Type 0
-AnswersJsonUnder (Some choice) devices from capture before after told =
+abbrev pub AnswersJsonUnder : Result JsonChoice CallStatus → List ℕ → Option Held → List ℕ → List ℕ → List ℕ → PmbResult
+    → Type 0
+AnswersJsonUnder (Ok choice) devices from capture before after told =
     AnswersUnder (telling choice devices) from capture before after told
-AnswersJsonUnder None devices from capture before after told = StaysUnchosen before after told
+AnswersJsonUnder (Err why) devices from capture before after told = Stays why before after told

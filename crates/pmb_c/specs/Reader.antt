@@ -1,6 +1,6 @@
 -- A reader behind a handle.
 use Rattle.std.specs.Arc.{arc_value}
-use Rattle.std.specs.Prelude.{◌≡◌, ℕ, ℤ, nat_lt, if◌then◌else◌, Bool, true, false, Option, Some, None, List, length}
+use Rattle.std.specs.Prelude.{◌≡◌, ℕ, ℤ, nat_lt, if◌then◌else◌, Bool, true, false, Option, Some, None, Result, Ok, Err, List, length}
 use Rattle.pmb_capture_reader.specs.Reader.{reader_ready, reader_state, reader_tally}
 use Rattle.pmb_capture_reader.specs.Work.{Acts, Ends, Feeds, StandsFresh, Takes}
 use Rattle.pmb_capture_reader.specs.declared.reader.CaptureReader.{CaptureReader}
@@ -81,18 +81,18 @@ pub record HasReader (kind : ReaderKind) (choice : JsonChoice) (devices : List �
   pub is : reader_in (Some holds) ≡ Some reader
   pub of_kind : kind_in (Some holds) ≡ Some kind
 
--- A reader is open, or none: the choice has a number that none of its fields has; or it has none, and the other handle
--- holds no profile, or there was no memory for a reader under the one that it holds.
-pub data OpensReader (kind : ReaderKind) (chosen : Option JsonChoice) (devices : List ℕ) (from after : Option Held)
+-- A reader is open, or none: the choice has a fault; or it has none, and the other handle holds no profile, or there was
+-- no memory for a reader under the one that it holds.
+pub data OpensReader (kind : ReaderKind) (chosen : Result JsonChoice CallStatus) (devices : List ℕ) (from after : Option Held)
     (returned : ℤ) : Type 0 where
-  Opened : (choice : JsonChoice) (bus : ProfileParts) (holds : Held) → chosen ≡ Some choice → profile_in from ≡ Some bus
+  Opened : (choice : JsonChoice) (bus : ProfileParts) (holds : Held) → chosen ≡ Ok choice → profile_in from ≡ Some bus
       → HasReader kind choice devices bus holds → after ≡ Some holds → returned ≡ number_of status.Done
       → OpensReader kind chosen devices from after returned
-  Unchosen : chosen ≡ None → after ≡ None → returned ≡ number_of status.BadChoice
+  Unchosen : (why : CallStatus) → chosen ≡ Err why → after ≡ None → returned ≡ number_of why
       → OpensReader kind chosen devices from after returned
-  Closed : (choice : JsonChoice) → chosen ≡ Some choice → profile_in from ≡ None → after ≡ None
+  Closed : (choice : JsonChoice) → chosen ≡ Ok choice → profile_in from ≡ None → after ≡ None
       → returned ≡ number_of status.Closed → OpensReader kind chosen devices from after returned
-  NoMemory : (choice : JsonChoice) → chosen ≡ Some choice → HoldsProfile from → after ≡ None
+  NoMemory : (choice : JsonChoice) → chosen ≡ Ok choice → HoldsProfile from → after ≡ None
       → returned ≡ number_of status.NoMemory → OpensReader kind chosen devices from after returned
 
 -- ---- reading

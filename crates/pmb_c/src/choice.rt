@@ -7,6 +7,7 @@ ghost use Rattle.std.specs.Prelude.{◌≡◌, option_map};
 ghost use Rattle.pmb_c.specs.Choice.{bad_words_of, chosen, is_address, start_of};
 
 use pmb_decimal::Digits;
+use pmb_firmware::CallStatus;
 use pmb_in_memory::JsonChoice;
 use pmb_telling::AfterBadToken;
 use pmb_unknown_start::Start;
@@ -26,24 +27,28 @@ pub struct PmbChoice {
 }
 
 impl PmbChoice {
-    /// What it chooses, of devices at these addresses; `None` where one of its numbers is none that
-    /// its field has, or an address has more than seven bits.
-    pub(crate) fn chosen(&self, devices: &[u8]) -> Option<JsonChoice>
+    /// What it chooses, of devices at these addresses.
+    ///
+    /// # Errors
+    ///
+    /// The first of these: `BadChoice` where `start` or `bad_words` is none of its numbers, `BadDigits`
+    /// for more than 12 digits, `BadDevice` for an address of more than seven bits.
+    pub(crate) fn chosen(&self, devices: &[u8]) -> Result<JsonChoice, CallStatus>
         ensures { result ≡ chosen self.now devices.now }
     {
-        if !are_addresses(devices) {
-            return None;
-        }
-        let Some(digits) = Digits::new(self.digits) else {
-            return None;
-        };
         let Some(start) = start(self.start) else {
-            return None;
+            return Err(CallStatus::BadChoice);
         };
         let Some(bad_words) = bad_words(self.bad_words) else {
-            return None;
+            return Err(CallStatus::BadChoice);
         };
-        Some(JsonChoice {
+        let Some(digits) = Digits::new(self.digits) else {
+            return Err(CallStatus::BadDigits);
+        };
+        if !are_addresses(devices) {
+            return Err(CallStatus::BadDevice);
+        }
+        Ok(JsonChoice {
             digits,
             start,
             bad_words,

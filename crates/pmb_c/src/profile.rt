@@ -247,8 +247,9 @@ fn json_under(
     ensures wrote { AnswersJsonUnder (chosen choice.now devices.now) devices.now handle.old.held capture.now room.old room.new result }
 {
     let size = room.len();
-    let Some(choice) = choice.chosen(devices) else {
-        return PmbResult::of_status(CallStatus::BadChoice);
+    let choice = match choice.chosen(devices) {
+        Ok(choice) => choice,
+        Err(why) => return PmbResult::of_status(why),
     };
     match lent(alloc, handle) {
         Ok(profile) => PmbResult::of(

@@ -99,8 +99,9 @@ pub(crate) fn open_as(
     ensures opens { OpensReader kind (chosen choice.now devices.now) devices.now profile.old.held reader.new.held result }
 {
     *reader = PmbHandle::closed(alloc);
-    let Some(choice) = choice.chosen(devices) else {
-        return CallStatus::BadChoice.number();
+    let choice = match choice.chosen(devices) {
+        Ok(choice) => choice,
+        Err(why) => return why.number(),
     };
     match lent(alloc, profile) {
         Ok(bus) => match opened(alloc, kind, bus, choice, devices) {

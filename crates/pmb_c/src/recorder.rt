@@ -3,9 +3,10 @@
 //! Its rows: `tests/rows/recordings.txt`.
 
 ghost use Rattle.std.specs.Prelude.{◌≡◌, option_copied, option_map};
-ghost use Rattle.pmb_c.specs.Recorder.{bus_of, form_of, hertz_of, source_of};
+ghost use Rattle.pmb_c.specs.Recorder.{bus_of, form_of, hertz_of, source_of, status_of};
 
-use pmb_import::{AddressForm, Recorder, RecordingSource};
+use pmb_firmware::CallStatus;
+use pmb_import::{AddressForm, Recorder, RecorderFault, RecordingSource};
 
 /// What wrote a recording, and how it is read.
 #[repr(C)]
@@ -23,21 +24,44 @@ pub struct PmbRecorder {
 }
 
 impl PmbRecorder {
-    ghost use Rattle.std.specs.Prelude.{◌≡◌, MatchOption};
-    ghost use Rattle.pmb_c.specs.Recorder.{Names};
-    ghost use Rattle.pmb_recorder.specs.Recorded.{Recorded, recorded_of};
+    ghost use Rattle.std.specs.Prelude.{MatchResult};
+    ghost use Rattle.pmb_c.specs.Recorder.{Names, Refused};
+    ghost use Rattle.pmb_recorder.specs.Recorded.{recorded_of};
 
-    /// What it names, with a bus; `None` where `import` reads no recording so.
-    pub(crate) fn recorder<'a>(&self, bus: &'a [u8]) -> Option<Recorder<'a>>
-        ensures { MatchOption result ((recorded : Recorded) → ¬ (Names self.now bus.now recorded)) (λ recorder. Names self.now bus.now (recorded_of recorder)) }
+    /// What it names, with a bus.
+    ///
+    /// # Errors
+    ///
+    /// The first of these: `BadSource` where no recorder has the number, `BadChoice` where
+    /// `unshifted` or `names_bus` is neither 0 nor 1, and then as [`Recorder::new`] has them
+    /// `BadRate`, `SigrokOnly` and `NoBus`.
+    pub(crate) fn recorder<'a>(&self, bus: &'a [u8]) -> Result<Recorder<'a>, CallStatus>
+        ensures { MatchResult result (λ recorder. Names self.now bus.now (recorded_of recorder)) (λ why. Refused self.now bus.now why) }
     {
-        let source = source(self.source)?;
-        let form = form(self.unshifted)?;
-        let bus = named_bus(self.names_bus, bus)?;
+        let Some(source) = source(self.source) else {
+            return Err(CallStatus::BadSource);
+        };
+        let Some(form) = form(self.unshifted) else {
+            return Err(CallStatus::BadChoice);
+        };
+        let Some(bus) = named_bus(self.names_bus, bus) else {
+            return Err(CallStatus::BadChoice);
+        };
         match Recorder::new(source, bus, hertz(self.rate), form) {
-            Ok(recorder) => Some(recorder),
-            Err(_) => None,
+            Ok(recorder) => Ok(recorder),
+            Err(fault) => Err(status_of(fault)),
         }
+    }
+}
+
+/// The status of a fault of what the numbers say together.
+fn status_of(fault: RecorderFault) -> CallStatus
+    ensures { result ≡ status_of fault }
+{
+    match fault {
+        RecorderFault::BadRate => CallStatus::BadRate,
+        RecorderFault::SigrokOnly => CallStatus::SigrokOnly,
+        RecorderFault::NoBus => CallStatus::NoBus,
     }
 }
 

@@ -7,7 +7,6 @@ ghost use Rattle.pmb_c.specs.Recorder.{ImportsInto};
 
 use crate::recorder::PmbRecorder;
 use crate::result::PmbResult;
-use pmb_firmware::CallStatus;
 use pmb_in_memory::put_import;
 use std::alloc::Global;
 
@@ -39,10 +38,10 @@ fn imported(
     ensures { ImportsInto recorder.now bus.now recording.now room.old room.new result }
 {
     match recorder.recorder(bus) {
-        Some(recorder) => {
+        Ok(recorder) => {
             let size = room.len();
             PmbResult::of(put_import(alloc, recorder, recording, room), size)
         }
-        None => PmbResult::of_status(CallStatus::BadChoice),
+        Err(why) => PmbResult::of_status(why),
     }
 }

@@ -16,7 +16,6 @@ ghost use Rattle.pmb_in_memory.specs.declared.memory_task.MemoryTask.TheVariants
 
 use crate::choice::PmbChoice;
 use crate::result::PmbResult;
-use pmb_firmware::CallStatus;
 use pmb_in_memory::{MemoryTask, put_json, put_whole};
 use std::alloc::Global;
 
@@ -103,12 +102,12 @@ pub extern "C" fn pmb_json(
     ensures length { result ≡ told.new.length }
 {
     match choice.chosen(devices) {
-        Some(choice) => {
+        Ok(choice) => {
             let size = room.len();
             let outcome = put_json(choice, devices, alloc, profile, capture, room);
             *told = PmbResult::of(outcome, size);
         }
-        None => *told = PmbResult::of_status(CallStatus::BadChoice),
+        Err(why) => *told = PmbResult::of_status(why),
     }
     told.length
 }

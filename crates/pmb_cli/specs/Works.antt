@@ -25,10 +25,11 @@ pub record IsDescribed (bus : ProfileParts) (tally : Tally) (text : List ℕ) : 
   pub whole : text ≡ bus_text bus.ignored bus.devices
   pub counts : IsTallyOf 0 0 tally
 
--- What `profile` is to write: the text of the bus, whatever follows its profile. Of that nothing is wanted.
+-- What `profile` is to write: the text of the bus, whatever follows its profile. Of that nothing is wanted, so that it
+-- never reads on to the end of it.
 abbrev pub describing : ProfileParts → Job Tally
 describing bus = record {
-  Whole = λ tally bytes text. IsDescribed bus tally text;
+  Whole = λ tally bytes text. ⊥;
   Stops = λ tally bytes text. IsDescribed bus tally text;
   Front = λ bytes text. ⊥;
   IsOpen = λ bytes. ⊥;

@@ -2,7 +2,7 @@
 //!
 //! Its rows: `tests/rows/arguments.txt`, `tests/rows/numbers.txt`, `tests/rows/recordings.txt`.
 
-ghost use Rattle.std.specs.Prelude.{◌≡◌};
+ghost use Rattle.std.specs.Prelude.{◌≡◌, ◌≢◌};
 ghost use Rattle.pmb_cli.specs.Tasks.{DidTask, conversion_of};
 ghost use Rattle.pmb_recorder.specs.Recorded.{recorded_of};
 ghost use Rattle.pmb_args.specs.Asked.{Convert, Import, asking_of};
@@ -36,20 +36,22 @@ pub(crate) fn run_task<R: Source, W: Sink, E: Sink>(
     }
 }
 
-/// Writes the capture of the recording that the reader gives, and returns the exit status.
+/// Writes the capture of the recording that the reader gives, and returns the exit status. It takes no
+/// memory, and so wants none.
 fn run_import<R: Source, W: Sink, E: Sink>(
     recorder: Recorder<'_>,
     reader: &mut R,
     out: &mut W,
     err: &mut E,
 ) -> ExitStatus
-    ensures { DidTask R.told W.told E.told SAMPLE.now (Import (recorded_of recorder.entry)) (reader.old, out.old, err.old) (reader.new, out.new, err.new) result }
+    ensures did { DidTask R.told W.told E.told SAMPLE.now (Import (recorded_of recorder.entry)) (reader.old, out.old, err.old) (reader.new, out.new, err.new) result }
+    ensures needless { result ≢ ExitStatus.NoMemory }
 {
     ended(import(recorder, &[], reader, out), err)
 }
 
 /// Converts the lines that the reader gives in the format that a text names, and returns the exit
-/// status.
+/// status. It takes no memory, and so wants none.
 fn run_lines<R: Source, W: Sink, E: Sink>(
     direction: Direction,
     format: &str,
@@ -57,7 +59,8 @@ fn run_lines<R: Source, W: Sink, E: Sink>(
     out: &mut W,
     err: &mut E,
 ) -> ExitStatus
-    ensures { DidTask R.told W.told E.told SAMPLE.now (Convert direction format.now) (reader.old, out.old, err.old) (reader.new, out.new, err.new) result }
+    ensures did { DidTask R.told W.told E.told SAMPLE.now (Convert direction format.now) (reader.old, out.old, err.old) (reader.new, out.new, err.new) result }
+    ensures needless { result ≢ ExitStatus.NoMemory }
 {
     // A text names one format at most.
     one_format();

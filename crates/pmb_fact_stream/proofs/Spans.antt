@@ -13,21 +13,24 @@ use Rattle.pmb_spans.specs.Spans.{Span, ReadSpan, RefusedSpan, TruncatedSpan, mo
 use Rattle.pmb_unknown_start.specs.Past.{PastData, Said}
 use Rattle.pmb_fact_stream.specs.Spans.{after_span, after_spans, other_or, refused_span, span_facts}
 use Rattle.pmb_fact_stream.specs.Others.{other_address}
-use Rattle.pmb_fact_stream.specs.Spans.{past_in}
+use Rattle.pmb_fact_stream.specs.Spans.{lost, past_in}
 
 -- ---- what was said, counts
 
 pub past_append : (a b : List Span) → past_in (a ++ b) ≡ past_in a ++ past_in b
 past_append [] b = refl
 past_append (ReadSpan n events t ∷ a) b = ap (λ (past : List PastData). Said t ∷ past) (past_append a b)
-past_append (RefusedSpan n front event refusal ∷ a) b = past_append a b
+past_append (RefusedSpan n front event refusal ∷ a) b =
+    ap (λ (past : List PastData). lost front event refusal.reason ++ past) (past_append a b)
+    ∙ sym (append_assoc (lost front event refusal.reason) (past_in a) (past_in b))
 past_append (TruncatedSpan n front refusal ∷ a) b = past_append a b
 
 pub past_moved : (n : ℕ) (spans : List Span) → past_in (moved_spans n spans) ≡ past_in spans
 past_moved n [] = refl
 past_moved n (ReadSpan m events t ∷ spans) = ap (λ (past : List PastData). Said t ∷ past)
     (past_moved n spans)
-past_moved n (RefusedSpan m front event refusal ∷ spans) = past_moved n spans
+past_moved n (RefusedSpan m front event refusal ∷ spans) = ap (λ (past : List PastData). lost front event refusal.reason ++ past)
+    (past_moved n spans)
 past_moved n (TruncatedSpan m front refusal ∷ spans) = past_moved n spans
 
 pub counts_append : (ignored : Option (List ℕ)) (c : CountsData) (a b : List Span)
@@ -53,7 +56,11 @@ module _ (ignored : Option (List ℕ)) (place : ℕ → Place) (times : ℕ → 
   facts_append before (RefusedSpan n front event refusal ∷ a) b =
       let first = other_or place times n (other_address ignored (front ++ event ∷ []))
       (refused_span place times before n front (Some event) refusal ∷ []) in
-      ap (λ (os : List FactData). first ++ os) (facts_append before a b) ∙ sym (append_assoc first _ _)
+      ap (λ (os : List FactData). first ++ os)
+      (facts_append (before ++ lost front event refusal.reason) a b
+      ∙ ap (λ (past : List PastData). span_facts ignored place times (before ++ lost front event refusal.reason) a
+      ++ span_facts ignored place times past b) (append_assoc before (lost front event refusal.reason) (past_in a)))
+      ∙ sym (append_assoc first _ _)
   facts_append before (TruncatedSpan n front refusal ∷ a) b =
       let first = other_or place times n (other_address ignored front)
       (refused_span place times before n front None refusal ∷ []) in

@@ -30,7 +30,7 @@ use Rattle.pmb_fact_stream.specs.Before.{Before, with_reached}
 use Rattle.pmb_fact_stream.specs.Choice.{ChoiceData}
 use Rattle.pmb_fact_stream.specs.Others.{other_address, span_events}
 use Rattle.pmb_fact_stream.specs.Spans.{after_either, after_open, after_some, after_spans, event_place, event_time}
-use Rattle.pmb_fact_stream.specs.Spans.{past_in}
+use Rattle.pmb_fact_stream.specs.Spans.{lost, past_in}
 use Rattle.pmb_fact_stream.specs.Stream.{kept_by}
 use Rattle.pmb_fact_stream.specs.Stream.{HasToldOf, IsSame, StreamKnows, TellsFacts, stream_choice, stream_profile}
 use Rattle.pmb_fact_stream.specs.Stream.{stream_time}
@@ -221,7 +221,7 @@ module _ {K : Type 0} (Keeps : K → Setting → List FactData → Type 0) (b : 
       → StreamKnows (record {
         read = b.read ++ reached.text;
         n = (b.n + length reached.events) + 1;
-        past = b.past ++ past_in reached.spans;
+        past = (b.past ++ past_in reached.spans) ++ lost front event refusal.reason;
         counts = counts;
       }) new
       → AddsFacts (stream_choice start.stream) b reached.text reached.spans (Open n front)
@@ -231,14 +231,18 @@ module _ {K : Type 0} (Keeps : K → Setting → List FactData → Type 0) (b : 
   told_refused n front event refusal counts keeper added facts standing same times keeps counpast_is knows adds tells =
       let span = RefusedSpan n front event refusal in
       let counted = counted_packet Keeps b start old new reached text told n front standing in
+      let past = b.past ++ past_in reached.spans in
+      let past_is : past ++ lost front event refusal.reason ≡ b.past ++ past_in (reached.spans ++ span ∷ []) =
+      append_assoc b.past (past_in reached.spans) (lost front event refusal.reason)
+      ∙ ap (λ (l : List PastData). b.past ++ (past_in reached.spans ++ l)) (sym (append-nil (lost front event refusal.reason)))
+      ∙ ap (λ (l : List PastData). b.past ++ l) (sym (past_append reached.spans (span ∷ []))) in
       told_span (behind_refusal reached n front event refusal) n front event span counts keeper added facts standing
       refl refl refl refl (λ c. count_behind (stream_choice old.stream).ignored c (n + length front) event)
       (λ l. open_behind_passed (stream_choice start.stream).ignored (event_place b.read b.n l)
       (event_time b.n l)
       b.n (n + length front) event) same times keeps
       (counts_passed (n + length front) reached.events event counted) counpast_is
-      (knows_as _ _ new refl refl (ap (λ (past : List PastData). b.past ++ past)
-      (sym (past_append reached.spans (span ∷ []) ∙ append-nil (past_in reached.spans)))) refl knows)
+      (knows_as _ _ new refl refl past_is refl knows)
       adds tells
 
   pub told_refusal : LastWordStands → (n : ℕ) (front : List Event) (event : Event) (refusal : RefusalData)
@@ -250,7 +254,7 @@ module _ {K : Type 0} (Keeps : K → Setting → List FactData → Type 0) (b : 
       → StreamKnows (record {
         read = b.read ++ reached.text;
         n = (b.n + length reached.events) + 1;
-        past = b.past ++ past_in reached.spans;
+        past = (b.past ++ past_in reached.spans) ++ lost front event refusal.reason;
         counts = after_refusal (after_open (stream_choice old.stream).ignored
             (after_spans (stream_choice old.stream).ignored b.counts reached.spans) reached.standing)
             (said_device front);
@@ -290,7 +294,7 @@ module _ {K : Type 0} (Keeps : K → Setting → List FactData → Type 0) (b : 
       → StreamKnows (record {
         read = b.read ++ reached.text;
         n = (b.n + length reached.events) + 1;
-        past = b.past ++ past_in reached.spans;
+        past = (b.past ++ past_in reached.spans) ++ lost front event refusal.reason;
         counts = after_open (stream_choice old.stream).ignored
             (after_spans (stream_choice old.stream).ignored b.counts reached.spans) reached.standing;
       }) new
@@ -314,7 +318,7 @@ module _ {K : Type 0} (Keeps : K → Setting → List FactData → Type 0) (b : 
       → StreamKnows (record {
         read = b.read ++ reached.text;
         n = (b.n + length reached.events) + 1;
-        past = b.past ++ past_in reached.spans;
+        past = (b.past ++ past_in reached.spans) ++ lost front event refusal.reason;
         counts = after_other (after_open (stream_choice old.stream).ignored
             (after_spans (stream_choice old.stream).ignored b.counts reached.spans) reached.standing) addr;
       }) new

@@ -5,8 +5,8 @@ use Rattle.pmb_scan.specs.Reached.{Reached}
 use Rattle.pmb_unknown_start.specs.Past.{PastData, Dropped}
 use Rattle.pmb_fact_stream.specs.Spans.{after_open, after_spans, past_in}
 
--- What was read before, how many events that were, the transactions and the lines that were dropped, and
--- the counts.
+-- What was read before, how many events that were, what went before, and the counts. What went before are
+-- the transactions, the lines that were dropped, and what was lost at refusals.
 pub record Before : Type 0 where
   pub read : List ℕ
   pub n : ℕ

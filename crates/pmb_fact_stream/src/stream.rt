@@ -2,7 +2,7 @@
 //!
 //! A `Stream` outlasts the scans of a capture: where a word is no token and reading begins anew, it
 //! keeps its places and its counts. What the dropped line said of PAGE, PHASE and VOUT_MODE is not known:
-//! these are unknown again where its `Late` says so.
+//! these are unknown again where its `Late` says so. So it is where a packet is refused.
 //!
 //! Its rows: `tests/rows/json_objects.txt`.
 

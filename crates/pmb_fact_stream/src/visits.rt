@@ -16,16 +16,18 @@ ghost use Rattle.pmb_partial_packet.specs.PartialPacket.{said_device};
 ghost use Rattle.pmb_partial_packet.specs.Standing.{SaidStandsAt};
 ghost use Rattle.pmb_scan.specs.Reached.{MayGoOn, Reached, behind_event, standing_after};
 ghost use Rattle.pmb_times.specs.Times.{TimesStandAt};
+ghost use Rattle.pmb_transaction.specs.Capture.{Viable};
 ghost use Rattle.pmb_transaction.specs.Transaction.{transaction_data};
 ghost use Rattle.pmb_unknown_start.specs.Past.{Said};
 ghost use Rattle.pmb_fact_stream.specs.declared.kept_stream.KeptStream.{KeptStream as Kept};
 ghost use Rattle.pmb_fact_stream.specs.Before.{Before};
 ghost use Rattle.pmb_io.specs.Calls.{WriterTells};
 ghost use Rattle.pmb_io.specs.Engines.{PutsOut};
-ghost use Rattle.pmb_fact_stream.specs.Stream.{IsSame, StreamAt, StreamKnows, StreamStands, stream_choice};
+ghost use Rattle.pmb_fact_stream.specs.Stream.{IsSame, StreamAt, StreamKnows, StreamStands, stream_choice, stream_profile};
+ghost use Rattle.pmb_fact_stream.specs.Spans.{dropped_if, is_start, is_to_none, loses, may_take};
 ghost use Rattle.pmb_fact_stream.specs.machine.Front.{front_of, other_begun_at};
 ghost use Rattle.pmb_fact_stream.specs.machine.Begun.{begun_behind};
-ghost use Rattle.pmb_fact_stream.specs.machine.Knowing.{IsCleared, KeepsSame, KeepsTimes, KeepsUnderWay, passes_on as passes_on_of};
+ghost use Rattle.pmb_fact_stream.specs.machine.Knowing.{IsCleared, KeepsPacket, KeepsSame, KeepsTimes, KeepsUnderWay, passes_on as passes_on_of};
 ghost use Rattle.pmb_fact_stream.specs.machine.OpenTime.{HasTime, KeepsTime};
 
 use crate::front::{Front, is_other};
@@ -40,8 +42,8 @@ use pmb_places::laws::{texts_end_between_words, the_last_word_stands_there};
 use pmb_reader::Refusal;
 use pmb_scan::Visitor;
 use pmb_table::laws::accepted_bus;
-use pmb_transaction::Transaction;
 use pmb_transaction::laws::{packet_ends_with_stop, packets_are_bytes};
+use pmb_transaction::{Reason, Transaction};
 
 impl<'p> Stream<'p> {
     /// Takes an event that ends no packet, and is not refused.
@@ -168,30 +170,89 @@ impl<'p> Stream<'p> {
     }
 
     /// Counts a refusal, and takes the refused event.
-    fn take_refused(&mut self, event: Event)
+    fn take_refused(&mut self, event: Event, loses: bool)
         ensures knows { (b : Before) (front : List BusEvent) → StreamKnows b self.old → SaidStandsAt self.old.said front
-            → StreamKnows (record b { n = b.n + 1; counts = after_refusal b.counts (said_device front) }) self.new }
+            → StreamKnows (record b { n = b.n + 1; past = b.past ++ dropped_if loses; counts = after_refusal b.counts (said_device front) }) self.new }
         ensures packet { (b : Before) (text : List ℕ) (n : ℕ) → KeepsUnderWay b self.new text (behind_passed n event) }
         ensures same { IsSame self.old self.new }
         ensures time { (text : List ℕ) (events : List BusEvent) → HasTime self.old.time text events → KeepsTime self.new.time text (events ++ event ∷ []) }
         ensures times { self.new.times ≡ self.old.times }
     {
         self.count_refusal();
-        self.pass_over(event);
+        self.pass_over(event, loses);
     }
 
-    /// Takes an event that is refused, the first that is passed over, and forgets the packet.
-    fn pass_over(&mut self, event: Event)
-        ensures knows { (b : Before) → StreamKnows b self.old → StreamKnows (record b { n = b.n + 1 }) self.new }
+    /// Takes an event that is refused, the first that is passed over, and forgets the packet, with what
+    /// is known of PAGE, PHASE and VOUT_MODE if something may be lost there.
+    fn pass_over(&mut self, event: Event, loses: bool)
+        ensures knows { (b : Before) → StreamKnows b self.old
+            → StreamKnows (record b { n = b.n + 1; past = b.past ++ dropped_if loses }) self.new }
         ensures packet { (b : Before) (text : List ℕ) (n : ℕ) → KeepsUnderWay b self.new text (behind_passed n event) }
         ensures same { IsSame self.old self.new }
         ensures time { (text : List ℕ) (events : List BusEvent) → HasTime self.old.time text events → KeepsTime self.new.time text (events ++ event ∷ []) }
         ensures times { self.new.times ≡ self.old.times }
     {
+        self.lose(loses);
         self.count_event();
         self.clear();
         self.time.take(event);
         self.passing = passes_on(event);
+    }
+
+    /// Forgets what is known of PAGE, PHASE and VOUT_MODE, if something may have been lost.
+    fn lose(&mut self, loses: bool)
+        ensures knows { (b : Before) → StreamKnows b self.old → StreamKnows (record b { past = b.past ++ dropped_if loses }) self.new }
+        ensures same { IsSame self.old self.new }
+        ensures times { KeepsTimes self.old self.new }
+    {
+        if loses {
+            self.late.drop_line();
+        }
+    }
+
+    /// Whether something may be lost where that event is refused.
+    fn loses(&self, event: Event, reason: Reason) -> bool
+        ensures { (b : Before) (text : List ℕ) (n : ℕ) (front : List BusEvent) → KeepsPacket b self.now text n front
+            → Viable (stream_profile self.now) front → result ≡ loses front event reason }
+    {
+        !self.is_to_none(reason) && self.may_take(event)
+    }
+
+    /// Whether the packet is told to no device of the profile, since its first address byte is refused.
+    fn is_to_none(&self, reason: Reason) -> bool
+        ensures { (b : Before) (text : List ℕ) (n : ℕ) (front : List BusEvent) → KeepsPacket b self.now text n front
+            → result ≡ is_to_none front reason }
+    {
+        match reason {
+            Reason::ReadFirst => true,
+            Reason::UnknownDevice => self.begun.len() == 1,
+            Reason::BadRestart
+            | Reason::BadPec
+            | Reason::UnknownCommand
+            | Reason::TooLong
+            | Reason::TooShort
+            | Reason::WrongEvent
+            | Reason::Truncated => false,
+        }
+    }
+
+    /// Whether devices may take something where that event is refused: not in a leg that is read, unless
+    /// a packet may begin there.
+    fn may_take(&self, event: Event) -> bool
+        ensures { (front : List BusEvent) → Viable (stream_profile self.now) front → SaidStandsAt self.now.said front
+            → result ≡ may_take front event }
+    {
+        is_start(event) || self.said.reply().is_none()
+    }
+}
+
+/// Whether it is START.
+fn is_start(event: Event) -> bool
+    ensures { result ≡ is_start event }
+{
+    match event {
+        Event::Start => true,
+        Event::Byte(_) | Event::Ack | Event::Nack | Event::Stop => false,
     }
 }
 
@@ -327,20 +388,21 @@ impl<'p, K: Keeper> Visitor for KeptStream<'p, K> {
         the_last_word_stands_there();
         let stream = &mut self.stream;
         let keeper = &mut self.keeper;
+        let loses = stream.loses(event, refusal.reason);
         stream.time.begin(&stream.times);
         let place = stream.places.word();
         if let Some(addr) = stream.front.begins_other(event, &stream.choice) {
             stream.put_other(keeper, addr, place, waiting, writer)?;
             stream.counts.count_other(addr);
-            stream.pass_over(event);
+            stream.pass_over(event, loses);
             return Ok(());
         }
         if let Front::Other = stream.front {
-            stream.pass_over(event);
+            stream.pass_over(event, loses);
             return Ok(());
         }
         stream.put_refusal(keeper, Some(event), place, refusal, waiting, writer)?;
-        stream.take_refused(event);
+        stream.take_refused(event, loses);
         Ok(())
     }
 }

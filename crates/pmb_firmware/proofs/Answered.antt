@@ -13,6 +13,7 @@ use Rattle.pmb_bus.specs.declared.lexer.LexerState.{LexerState}
 use Rattle.pmb_bus.specs.declared.lexer.LexerState.TheVariants as places
 use Rattle.pmb_bus.specs.declared.lexer.Step.{Step}
 use Rattle.pmb_bus.specs.declared.lexer.Step.TheVariants as answers
+use Rattle.pmb_bus.specs.Count.{capped}
 use Rattle.pmb_bus.specs.LexFault.{OpenWordIsBad}
 use Rattle.pmb_bus.specs.Lexer.{LexerStandsAt}
 use Rattle.pmb_bus.specs.Lexer as whole
@@ -52,7 +53,7 @@ fault_at : (lexer : PmbLexer) (n : ℕ) (text : List ℕ) → IsEnd lexer n text
 fault_at lexer n text (short counted (between place ends)) =
     let is : faulted lexer ≡ record lexer { place = 4; at = lexer.used } = rw place refl in
     (n, omega (arith, ap (length {A = ℕ}) ends.0), ap (λ (at : PmbLexer). at.at) is ∙ counted)
-fault_at lexer n text (short counted (comment place none inside)) =
+fault_at lexer n text (short counted (comment place none inside some)) =
     let is : faulted lexer ≡ record lexer { place = 4; at = lexer.used } = rw place refl in
     (n, omega (arith, ap (length {A = ℕ}) none), ap (λ (at : PmbLexer). at.at) is ∙ counted)
 fault_at lexer n text (short counted (one place begun at)) =
@@ -75,6 +76,20 @@ faulted_place false false lexer = omega arith
 
 pub is_faulted : (lexer : PmbLexer) → IsFaulted (faulted lexer) (BadToken (faulted lexer).at)
 is_faulted lexer = record { place = faulted_place (lexer.place == 0) (lexer.place == 1) lexer; kept = refl }
+
+-- all that was used stays counted
+faulted_used : (first second : Bool) (lexer : PmbLexer)
+    → (cond (first || second) (record lexer { place = 4; at = lexer.used }) (record lexer { place = 4 })).used
+    ≡ lexer.used
+faulted_used true second lexer = refl
+faulted_used false true lexer = refl
+faulted_used false false lexer = refl
+
+still_counted : (lexer : PmbLexer) (n : ℕ) (text : List ℕ) → IsEnd lexer n text → (faulted lexer).used ≡ capped n
+still_counted lexer n text ends =
+    let counted : lexer.used ≡ capped n = elim ends
+    [ short counted place ↦ counted | long counted is_long ↦ counted ] in
+    faulted_used (lexer.place == 0) (lexer.place == 1) lexer ∙ counted
 
 -- ---- a piece
 
@@ -158,6 +173,7 @@ module _ (before : PmbLexer) (n : ℕ) (text : List ℕ) (events : List Event) (
         (append_assoc tail.tail piece more) (refused.bad more)) in
         subst (λ (all : List ℕ). OpenWordIsBad (text ++ take used piece) all events)
         (sym (append_assoc text piece more)) there;
+    counted = still_counted passed (n + used) (text ++ take used piece) ends;
     faulted = is_faulted passed;
   }
 
@@ -191,7 +207,7 @@ module _ (before : PmbLexer) (n : ℕ) (text : List ℕ) (events : List Event) (
   still spelled =
       elim stands.place [
         | between place ends ↦ between place (space_cuts text, space_outside text ends.1)
-        | comment place none inside ↦ comment place (space_cuts text) (space_inside text inside)
+        | comment place none inside some ↦ comment place (space_cuts text) (space_inside text inside) some
         | one place begun begins ↦ absurd (all_ended text events spelled stands.ended (ap is_word begun.opened))
         | two place begun begins ↦ absurd (all_ended text events spelled stands.ended (ap is_word begun.opened))
       ]
@@ -207,7 +223,7 @@ module _ (before : PmbLexer) (n : ℕ) (text : List ℕ) (events : List Event) (
   outside_there event spelled =
       elim stands.place [
         | between place ends ↦ ends.1
-        | comment place none inside ↦ absurd (not_all_ended text events event spelled stands.ended none)
+        | comment place none inside some ↦ absurd (not_all_ended text events event spelled stands.ended none)
         | one place begun begins ↦ begun.outside
         | two place begun begins ↦ begun.outside
       ]
@@ -235,5 +251,6 @@ module _ (before : PmbLexer) (n : ℕ) (text : List ℕ) (events : List Event) (
         at = fault_at before n text (short stands.counted stands.place);
         bad = subst (λ (all : List ℕ). OpenWordIsBad all all events) (append-nil text)
             (open_bad text tail.tail tail.is_tail events stands.ended [] tail.is_behind [] twice);
+        counted = still_counted before n text (short stands.counted stands.place);
         faulted = is_faulted before;
       }

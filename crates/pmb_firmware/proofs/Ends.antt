@@ -150,7 +150,7 @@ module _ (lexer : PmbLexer) (n : ℕ) (text : List ℕ) (b : ℕ) (counted : lex
             (
             short (counts lexer.used n counted)
             (comment refl (cut_inside text b (brought_in text b outside hash))
-            (inside_by text b ∙ brought_in text b outside hash))
+            (inside_by text b ∙ brought_in text b outside hash) (omega arith))
             )
         | inr other ↦
             elim (cases_Bool (is_separator b)) [
@@ -197,7 +197,10 @@ module _ (lexer : PmbLexer) (n : ℕ) (text : List ℕ) (b : ℕ) (counted : lex
             let stays : in_comment (ends_in_comment text) b ≡ true =
             ap (λ (v : Bool). in_comment v b) inside ∙ ap (λ (v : Bool). cond v false true) other in
             so lexer (rw (place, other) refl)
-            (short (counts lexer.used n counted) (comment place (cut_inside text b stays) (inside_by text b ∙ stays)))
+            (
+            short (counts lexer.used n counted)
+            (comment place (cut_inside text b stays) (inside_by text b ∙ stays) (omega arith))
+            )
       ]
 
   -- 2: after one byte of a word
@@ -248,7 +251,7 @@ module _ (lexer : PmbLexer) (n : ℕ) (text : List ℕ) (b : ℕ) (counted : lex
 pub behind_ends : (lexer : PmbLexer) (n : ℕ) (text : List ℕ) (b : ℕ) → IsEnd lexer n text
     → IsEnd (behind lexer b) (n + 1) (text ++ b ∷ [])
 behind_ends lexer n text b (short counted (between place ends)) = over_between lexer n text b counted place ends
-behind_ends lexer n text b (short counted (comment place none inside)) =
+behind_ends lexer n text b (short counted (comment place none inside some)) =
     over_comment lexer n text b counted place inside
 behind_ends lexer n text b (short counted (one place begun begins)) = over_one lexer n text b counted place begun begins
 behind_ends lexer n text b (short counted (two place begun begins)) =

@@ -7,3 +7,4 @@ pub mod Bad
 pub mod Resumed
 pub mod Somewhere
 pub mod Answered
+pub mod Statuses

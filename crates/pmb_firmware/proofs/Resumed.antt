@@ -2,7 +2,7 @@
 -- `lexer_behind`. Given the bytes of the tail, nothing, `#`, or one or two bytes of a word, a new
 -- lexer needs more: no word has ended there, and no fault is met, since the text begins a text of
 -- events.
-use Rattle.std.proofs.Common.{◌≡◌, ℕ, ◌+◌, Option, Some, None, List, [], ◌∷◌, ◌++◌, length, take, drop, refl, sym, ap}
+use Rattle.std.proofs.Common.{◌≡◌, ℕ, ◌+◌, ◌<◌, Option, Some, None, List, [], ◌∷◌, ◌++◌, length, take, drop, refl, sym, ap}
 use Rattle.std.proofs.Common.{subst, ◌∙◌, arith}
 use Rattle.std.proofs.lemmas.List.{append-nil, take-append-drop}
 use Rattle.pmb_bus.specs.declared.event.Event.{Event}
@@ -84,11 +84,21 @@ module _ (lexer : PmbLexer) (n : ℕ) (text : List ℕ) (events : List Event) (s
       let open_word_none : IsOpen text [] =
       elim stands.place [
         | between place ends ↦ open_none text ends
-        | comment place none inside ↦ absurd (omega (arith, is, place))
+        | comment place none inside some ↦ absurd (omega (arith, is, place))
         | one place begun begins ↦ absurd (omega (arith, is, place))
         | two place begun begins ↦ absurd (omega (arith, is, place))
       ] in
       resumes_word [] open_word_none (Some found) resumes
+
+  -- a comment's `#` was used
+  pub comment_used : lexer.place ≡ 1 → 0 < lexer.used
+  comment_used is =
+      elim stands.place [
+        | between place ends ↦ absurd (omega (arith, is, place))
+        | comment place none inside some ↦ omega (arith, some, stands.counted)
+        | one place begun begins ↦ absurd (omega (arith, is, place))
+        | two place begun begins ↦ absurd (omega (arith, is, place))
+      ]
 
   pub resumes_comment : lexer.place ≡ 1 → (found : Option Lexer) → ResumesBehind (35 ∷ []) found
       → Resumes lexer text found
@@ -96,7 +106,7 @@ module _ (lexer : PmbLexer) (n : ℕ) (text : List ℕ) (events : List Event) (s
       let is_tail : IsTail text (35 ∷ []) =
       elim stands.place [
         | between place ends ↦ absurd (omega (arith, is, place))
-        | comment place none inside ↦ record { word = none; comment = inside; none_ended = refl }
+        | comment place none inside some ↦ record { word = none; comment = inside; none_ended = refl }
         | one place begun begins ↦ absurd (omega (arith, is, place))
         | two place begun begins ↦ absurd (omega (arith, is, place))
       ] in
@@ -108,7 +118,7 @@ module _ (lexer : PmbLexer) (n : ℕ) (text : List ℕ) (events : List Event) (s
       let begun_word : IsOpen text (lexer.first ∷ []) =
       elim stands.place [
         | between place ends ↦ absurd (omega (arith, is, place))
-        | comment place none inside ↦ absurd (omega (arith, is, place))
+        | comment place none inside some ↦ absurd (omega (arith, is, place))
         | one place begun begins ↦ begun
         | two place begun begins ↦ absurd (omega (arith, is, place))
       ] in
@@ -120,7 +130,7 @@ module _ (lexer : PmbLexer) (n : ℕ) (text : List ℕ) (events : List Event) (s
       let begun_word : IsOpen text (lexer.first ∷ lexer.second ∷ []) =
       elim stands.place [
         | between place ends ↦ absurd (omega (arith, is, place))
-        | comment place none inside ↦ absurd (omega (arith, is, place))
+        | comment place none inside some ↦ absurd (omega (arith, is, place))
         | one place begun begins ↦ absurd (omega (arith, is, place))
         | two place begun begins ↦ begun
       ] in

@@ -1,17 +1,19 @@
 -- A space after a text, as its end counts: for `PmbLexer::feed` and `PmbLexer::finish`. A space
 -- (byte 32) ends the word under way and leaves a comment; so all words have ended, and there are
--- as many of them as events.
-use Rattle.std.proofs.Common.{◌≡◌, ℕ, Bool, true, false, Some, List, [], ◌∷◌, ◌++◌, codes, length, refl, sym, ap, subst}
+-- as many of them as events. At the end, texts of spaces alone, one of each length: for `Somewhere`.
+use Rattle.std.proofs.Common.{◌≡◌, ℕ, zero, suc, Bool, true, false, Some, List, [], ◌∷◌, ◌++◌, codes, length, refl, sym}
+use Rattle.std.proofs.Common.{ap, subst}
 use Rattle.std.proofs.Common.{◌∙◌, arith}
 use Rattle.std.specs.List.{filter}
 use Rattle.std.proofs.lemmas.List.{append-nil, length-append, length-map}
 use Rattle.pmb_bus.specs.declared.event.Event.{Event}
 use Rattle.pmb_bus.specs.Event.{event_of}
-use Rattle.pmb_bus.specs.Text.{AreTokens, EndedWordsSpell, Spells, all_but_last, ended_words, ends_in_comment}
+use Rattle.pmb_bus.specs.Text.{AreTokens, EndedWordsSpell, EndsBetween, Spells, all_but_last, ended_words}
+use Rattle.pmb_bus.specs.Text.{ends_in_comment}
 use Rattle.pmb_bus.specs.Text.{in_comment, is_word, open_word, words}
 use Rattle.pmb_firmware.proofs.Ends.{cut_separator, inside_by}
 use Rattle.pmb_firmware.proofs.Runs.{ended_append, following}
-use Rattle.pmb_firmware.proofs.Tails.{all_words, ended_are_all}
+use Rattle.pmb_firmware.proofs.Tails.{all_words, between_tail, ended_are_all, tail_ended}
 
 pub space_cuts : (text : List ℕ) → open_word (text ++ codes " ") ≡ []
 space_cuts text = cut_separator text 32 refl
@@ -79,3 +81,24 @@ not_all_ended text events event spelled ended none =
       ap (length {A = List ℕ}) (ended_are_all text none),
       length-append events (event ∷ []),
     )
+
+-- ---- spaces alone
+
+-- a text of so many bytes in which no word and no comment begins
+pub record Blank (n : ℕ) : Type 0 where
+  pub text : List ℕ
+  pub long : n ≡ length text
+  pub between : EndsBetween text
+  pub none_ended : ended_words text ≡ []
+
+pub spaces : (n : ℕ) → Blank n
+spaces zero = record { text = []; long = refl; between = (refl, refl); none_ended = refl }
+spaces (suc n) =
+    let before = spaces n in
+    let tail = between_tail before.text before.between in
+    record {
+      text = before.text ++ codes " ";
+      long = omega (arith, before.long, length-append before.text (codes " "));
+      between = (space_cuts before.text, space_outside before.text before.between.1);
+      none_ended = tail_ended before.text [] tail (codes " ") ∙ ap (λ (ws : List (List ℕ)). ws ++ []) before.none_ended;
+    }

@@ -37,6 +37,12 @@ number_of (status.Word Off) = pos 24
 number_of status.Closed = pos 25
 number_of status.Ended = pos 26
 number_of status.Busy = pos 27
+number_of status.BadDigits = pos 28
+number_of status.BadDevice = pos 29
+number_of status.BadSource = pos 30
+number_of status.BadRate = pos 31
+number_of status.SigrokOnly = pos 32
+number_of status.NoBus = pos 33
 
 -- the name of the status of a number, if it is one
 abbrev pub named : ℕ → Option (List ℕ)
@@ -69,6 +75,12 @@ named number =
     else if number == 25 then Some (codes "PMB_CLOSED")
     else if number == 26 then Some (codes "PMB_ENDED")
     else if number == 27 then Some (codes "PMB_BUSY")
+    else if number == 28 then Some (codes "PMB_BAD_DIGITS")
+    else if number == 29 then Some (codes "PMB_BAD_DEVICE")
+    else if number == 30 then Some (codes "PMB_BAD_SOURCE")
+    else if number == 31 then Some (codes "PMB_BAD_RATE")
+    else if number == 32 then Some (codes "PMB_SIGROK_ONLY")
+    else if number == 33 then Some (codes "PMB_NO_BUS")
     else None
 
 -- .. of a number with a sign

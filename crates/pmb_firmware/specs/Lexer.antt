@@ -10,16 +10,19 @@ use Rattle.pmb_bus.specs.declared.event.Event.{Event}
 use Rattle.pmb_bus.specs.declared.lexer.LexFault.{LexFault}
 use Rattle.pmb_bus.specs.declared.lexer.Step.{Step}
 use Rattle.pmb_bus.specs.declared.lexer.Step.TheVariants as answers
+use Rattle.pmb_bus.specs.Count.{capped}
 use Rattle.pmb_bus.specs.LexFault.{IsFaultOf, OpenWordIsBad}
 use Rattle.pmb_bus.specs.Text.{EndedWordsSpell, Spells, BeginsText}
 use Rattle.pmb_firmware.specs.declared.lexer.PmbLexer.{PmbLexer}
 pub use Rattle.pmb_firmware.specs.machine.Standing.{StandsAt, IsFaulted}
 
--- It stands at some text: what it answers from here on is what a lexer answers that was given that text.
+-- It stands at some text of n bytes, with no end of the input in it: what it answers from here on is what a
+-- lexer answers that was given that text. Its `used` is n, or stays at the greatest u64, as StandsAt says.
 pub record StandsSomewhere (lexer : PmbLexer) : Type 0 where
   pub n : ℕ
   pub text : List ℕ
   pub events : List Event
+  pub long : n ≡ length text
   pub stands : StandsAt lexer n text events
 
 -- `Need`: all of the piece is used, and no further word has ended.
@@ -45,6 +48,7 @@ pub record Refuses (n : ℕ) (text : List ℕ) (events : List Event) (piece : Li
   pub stops : BeginsText (text ++ take (used + 1) piece) → ⊥
   pub at : IsFaultOf (n + used) (text ++ take used piece) fault
   pub bad : (more : List ℕ) → OpenWordIsBad (text ++ take used piece) ((text ++ piece) ++ more) events
+  pub counted : after.used ≡ capped (n + used)
   pub faulted : IsFaulted after fault
 
 -- what `feed` answers for a piece to a lexer that stands at a text, and where it then stands
@@ -68,6 +72,7 @@ pub record FinishRefuses (n : ℕ) (text : List ℕ) (events : List Event) (afte
   pub spells_none : (others : List Event) → Spells text others → ⊥
   pub at : IsFaultOf n text fault
   pub bad : OpenWordIsBad text text events
+  pub counted : after.used ≡ capped n
   pub faulted : IsFaulted after fault
 
 abbrev pub Finishes : ℕ → List ℕ → List Event → Result (Option Event) LexFault → PmbLexer → Type 0

@@ -24,7 +24,7 @@ pub enum CallStatus {
     BadProfile,
     /// There was no memory.
     NoMemory,
-    /// The choice of JSON has a number that none of its fields has.
+    /// A field of a choice has a number that says nothing there.
     BadChoice,
     /// No word has ended in the text so far.
     NoEvent,
@@ -38,6 +38,18 @@ pub enum CallStatus {
     Ended,
     /// A transfer is under way: its last message was not sent.
     Busy,
+    /// More digits are chosen than a number may have after its point.
+    BadDigits,
+    /// The address of a wanted device has more than seven bits.
+    BadDevice,
+    /// No recorder has this number.
+    BadSource,
+    /// So many samples a second are none that a recording may have.
+    BadRate,
+    /// What is said of the recording is for those of sigrok alone.
+    SigrokOnly,
+    /// A bus is named of a recording that has one without a name.
+    NoBus,
 }
 
 impl CallStatus {
@@ -74,6 +86,12 @@ impl CallStatus {
             CallStatus::Closed => 25,
             CallStatus::Ended => 26,
             CallStatus::Busy => 27,
+            CallStatus::BadDigits => 28,
+            CallStatus::BadDevice => 29,
+            CallStatus::BadSource => 30,
+            CallStatus::BadRate => 31,
+            CallStatus::SigrokOnly => 32,
+            CallStatus::NoBus => 33,
         }
     }
 }

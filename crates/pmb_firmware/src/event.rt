@@ -74,8 +74,7 @@ fn tell(step: Step, event: &mut PmbEvent) -> i32
 /// Takes the end of a capture's text: it ends the word under way as a separator would.
 ///
 /// The status is that no word was under way; or that a word is no token, which begins at the
-/// lexer's
-/// `at`. Then the event stays as it was.
+/// lexer's `at`. Then the event stays as it was.
 pub fn lex_end(lexer: &mut PmbLexer, event: &mut PmbEvent) -> i32
     ensures stands { (n : ℕ) (text : List ℕ) (events : List BusEvent) → StandsAt lexer.old n text events
         → Ends n text events lexer.new event.old result event.new }

@@ -7,7 +7,8 @@
 //! the end of the bytes that were used.
 //!
 //! A struct from C may have any numbers. Those that a lexer has at no text are refused, as a word that is
-//! no token is: so whatever they are, no answer depends on how the text is cut.
+//! no token is: so whatever they are, no answer depends on how the text is cut. The others it has after
+//! spaces, and then nothing, a `#` or the bytes of a word (`proofs/Somewhere`).
 //!
 //! Its rows: `tests_bytes`, `src/firmware/cuts.rt`.
 
@@ -53,7 +54,8 @@ pub struct PmbLexer {
 impl PmbLexer {
     /// A lexer at the start of a text.
     pub fn new() -> PmbLexer
-        ensures { StandsAt result 0 [] [] }
+        ensures stands { StandsAt result 0 [] [] }
+        ensures zeros { result ≡ record { used = 0; at = 0; place = 0; first = 0; second = 0 } }
     {
         PmbLexer {
             used: 0,
@@ -132,10 +134,24 @@ impl PmbLexer {
         let _used = self.used;
         match self.place {
             BETWEEN => Some(Lexer::new()),
-            COMMENT => lexer_behind(b"#"),
+            COMMENT => self.after_hash(),
             ONE => self.after_one(),
             TWO => self.after_two(),
             _ => None,
+        }
+    }
+
+    /// The lexer in a comment. `None` where no byte was used, and so no `#`.
+    fn after_hash(&self) -> Option<Lexer>
+        requires { self.now.place ≡ 1 }
+        ensures stands { (n : ℕ) (text : List ℕ) (events : List BusEvent) → StandsAt self.now n text events
+            → Resumes self.now text result }
+        ensures somewhere { IfSome result (λ _. StandsSomewhere self.now) }
+    {
+        if self.used > 0 {
+            lexer_behind(b"#")
+        } else {
+            None
         }
     }
 

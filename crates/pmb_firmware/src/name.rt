@@ -74,6 +74,12 @@ fn named(number: u32) -> Option<&'static str>
         25 => Some("PMB_CLOSED"),
         26 => Some("PMB_ENDED"),
         27 => Some("PMB_BUSY"),
+        28 => Some("PMB_BAD_DIGITS"),
+        29 => Some("PMB_BAD_DEVICE"),
+        30 => Some("PMB_BAD_SOURCE"),
+        31 => Some("PMB_BAD_RATE"),
+        32 => Some("PMB_SIGROK_ONLY"),
+        33 => Some("PMB_NO_BUS"),
         _ => None,
     }
 }

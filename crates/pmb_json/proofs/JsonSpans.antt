@@ -1,7 +1,8 @@
 -- The objects of facts of packets and refusals are JSON objects with distinct keys. For the law
 -- `each_line_is_json`. Laws of lower crates say it of one object (`Below`); here it is shown that
 -- what is counted, placed and said fits their premises.
-use Rattle.std.proofs.Common.{ℕ, ◌+◌, ◌-◌, Bool, Option, Some, None, List, [], ◌∷◌, ◌++◌, length, sym, subst, arith}
+use Rattle.std.proofs.Common.{ℕ, ◌+◌, ◌-◌, Bool, true, false, Option, Some, None, List, [], ◌∷◌, ◌++◌, length, sym}
+use Rattle.std.proofs.Common.{subst, arith}
 use Rattle.std.specs.Prelude.{IfSome}
 use Rattle.std.specs.List.{AllByRecursion}
 use Rattle.pmb_bus.specs.declared.event.Event.{Event}
@@ -32,7 +33,8 @@ use Rattle.pmb_fact_stream.specs.Before.{Before}
 use Rattle.pmb_fact_stream.specs.Choice.{ChoiceData}
 use Rattle.pmb_fact_stream.specs.Others.{other_address}
 use Rattle.pmb_fact_stream.specs.Lines.{seen_behind}
-use Rattle.pmb_fact_stream.specs.Spans.{event_place, event_time, other_or, past_in, refused_span, span_facts}
+use Rattle.pmb_fact_stream.specs.Spans.{dropped_if, event_place, event_time, loses, lost, other_or, past_in}
+use Rattle.pmb_fact_stream.specs.Spans.{refused_span, span_facts}
 use Rattle.pmb_fact_stream.specs.UnderWay.{open_time, time_of_some, under_way, up_to_stop}
 use Rattle.pmb_times.specs.Line.{IsTime as IsPlainTime}
 use Rattle.pmb_times.specs.Times.{time_at}
@@ -129,11 +131,21 @@ module _ (profile : List DeviceParts) where
       (tt, spans_say_packets (n + length front + length reads.4) reads.5 more reads.7)
   spans_say_packets n events (TruncatedSpan m front refusal ∷ more) reads = (tt, subst AllSayPackets (sym reads.3) tt)
 
+  dropped_tells_bytes : (loses : Bool) → AllTellBytes (dropped_if loses)
+  dropped_tells_bytes true = (tt, tt)
+  dropped_tells_bytes false = tt
+
+  -- what is lost at a refusal is no transaction
+  pub lost_tells_bytes : (front : List Event) (event : Event) (reason : Reason) → AllTellBytes (lost front event reason)
+  lost_tells_bytes front event reason = dropped_tells_bytes (loses front event reason)
+
   pub spans_tell_bytes : (spans : List Span) → AllSayPackets spans → AllTellBytes (past_in spans)
   spans_tell_bytes [] say = tt
   spans_tell_bytes (ReadSpan n events t ∷ spans) say =
       (packets_tell_bytes profile t events say.0, spans_tell_bytes spans say.1)
-  spans_tell_bytes (RefusedSpan n front event refusal ∷ spans) say = spans_tell_bytes spans say.1
+  spans_tell_bytes (RefusedSpan n front event refusal ∷ spans) say =
+      each_of_both PastTellsBytes (lost front event refusal.reason) (past_in spans) (lost_tells_bytes front event refusal.reason)
+      (spans_tell_bytes spans say.1)
   spans_tell_bytes (TruncatedSpan n front refusal ∷ spans) say = spans_tell_bytes spans say.1
 
 -- ---- their objects
@@ -191,9 +203,11 @@ module _ (below : Below) (choice : ChoiceData) (profile : List DeviceParts) (bus
         let own = refused_span place times before n front (Some event) refusal ∷ [] in
         let addr = other_address choice.ignored (front ++ event ∷ []) in
         each_of_both_facts choice profile IsJson (other_or place times n addr own)
-        (span_facts choice.ignored place times before spans)
+        (span_facts choice.ignored place times (before ++ lost front event refusal.reason) spans)
         (either_is_json n addr own (refusal_is_json before tell n front (Some event) refusal))
-        (facts_are_json before tell spans say.1)
+        (facts_are_json (before ++ lost front event refusal.reason)
+        (each_of_both PastTellsBytes before (lost front event refusal.reason) tell
+        (lost_tells_bytes profile front event refusal.reason)) spans say.1)
     facts_are_json before tell (TruncatedSpan n front refusal ∷ spans) say =
         let own = refused_span place times before n front None refusal ∷ [] in
         let addr = other_address choice.ignored front in

@@ -1,7 +1,8 @@
 -- What is known in a piece of a capture after lines that were dropped is so on the bus, whatever these lines
 -- said: of PAGE and VOUT_MODE since it is certain, and of PHASE since the last one was told after them. For the
 -- law `damaged_pieces_say_no_more`. What was told on the bus can be reached from what the piece has (`reach`),
--- and the piece has its end (`told_end`).
+-- and the piece has its end (`told_end`). What the piece tells after these lines the bus has too, and what is
+-- lost at refusals there is lost in both (`mended_on`, `told_on`).
 use Rattle.std.proofs.Common.{◌≡◌, ℕ, Bool, true, false, cond, Option, Some, None, List, [], ◌∷◌, ◌++◌, flat_map, fold, map}
 use Rattle.std.proofs.Common.{refl, sym, ap, ◌∙◌, subst, append_assoc, append-nil}
 use Rattle.std.specs.Option.{is_some, option_and_then, option_map, option_or}
@@ -14,9 +15,10 @@ use Rattle.pmb_note.specs.Paging.{selected_mode, told, told_by_part}
 use Rattle.pmb_note.specs.Paging.{mode as mode_of_whole, page as page_of_whole}
 use Rattle.pmb_transaction.specs.Transaction.{TransactionData, Write, Read, Call, Refused, Alert, NoAlert}
 use Rattle.pmb_unknown_start.specs.Certain.{AgreesWith, CanBegin, CanFollow, CanFollowDrop, CanFollowPast}
-use Rattle.pmb_unknown_start.specs.Certain.{CanFollowWrites, CanReach, IsCertainMode, IsCertainPage, MayHave}
+use Rattle.pmb_unknown_start.specs.Certain.{CanFollowWrites, CanReach, DropsOnOwnPage, IsCertainMode, IsCertainPage}
+use Rattle.pmb_unknown_start.specs.Certain.{IsOwnPage, MayHave}
 use Rattle.pmb_unknown_start.specs.Known.{known, known_mode, mode, mode_of, page}
-use Rattle.pmb_unknown_start.specs.Past.{PastData, Said, Dropped}
+use Rattle.pmb_unknown_start.specs.Past.{PastData, Said, Dropped, transactions_of}
 use Rattle.pmb_unknown_start.specs.Phase.{last_phase, phase, phase_of, told_phase, told_since, told_then}
 use Rattle.pmb_unknown_start.specs.Restores.{untells}
 use Rattle.pmb_unknown_start.specs.declared.mode.KnownMode.{KnownMode}
@@ -24,25 +26,6 @@ use Rattle.pmb_unknown_start.specs.declared.mode.KnownMode.TheVariants.{Known, U
 use Rattle.pmb_unknown_start.specs.declared.start.Start.{Start}
 use Rattle.pmb_unknown_start.specs.declared.start.Start.TheVariants.{AllKnown, Late, LateFixedMode}
 use Rattle.pmb_json.specs.Mended.{CanBeMended, IsMended}
-
--- ---- a transaction more
-
-pub mended_more : (start : Start) (device : DeviceParts) (before : List TransactionData) (past : List PastData)
-    (ts : List TransactionData) (t : TransactionData) → IsMended start device before past ts
-    → IsMended start device before (past ++ Said t ∷ []) (ts ++ t ∷ [])
-mended_more start device before [] ts t is = ([], ap (λ (l : List TransactionData). l ++ t ∷ []) is, refl)
-mended_more start device before (Said u ∷ past) ts t is = (
-  is.0 ++ t ∷ [],
-  ap (λ (l : List TransactionData). l ++ t ∷ []) is.1,
-  mended_more start device (before ++ u ∷ []) past is.0 t is.2,
-)
-mended_more start device before (Dropped ∷ past) ts t is = (
-  is.0,
-  is.1 ++ t ∷ [],
-  ap (λ (l : List TransactionData). l ++ t ∷ []) is.2 ∙ append_assoc is.0 is.1 (t ∷ []),
-  is.3,
-  mended_more start device (before ++ is.0) past is.1 t is.4,
-)
 
 -- ---- PAGE and VOUT_MODE
 
@@ -105,7 +88,75 @@ module _ (device : DeviceParts) where
         (reach start (before ++ is.0) past is.1 is.4),
   )
 
+  -- ---- and what the piece tells after that
+
+  -- PAGE of a device that it has stays what it is where something is dropped
+  drop_stays : (start : Start) (p : PagingData) → IsOwnPage device p.page → CanFollowDrop start device p p
+  drop_stays AllKnown p own = refl
+  drop_stays Late p own = (own, refl)
+  drop_stays LateFixedMode p own = (own, refl)
+
+  -- what is said without anything lost
+  said_mended : (start : Start) (before : List TransactionData) (more : List PastData)
+      → DropsOnOwnPage device (paging device before) more → IsMended start device before more (transactions_of more)
+  said_mended start before [] drops = refl
+  said_mended start before (Said t ∷ more) drops = (
+    transactions_of more,
+    refl,
+    said_mended start (before ++ t ∷ []) more
+        (subst (λ (p : PagingData). DropsOnOwnPage device p more) (sym (one_more before t)) drops),
+  )
+  said_mended start before (Dropped ∷ more) drops =
+      let same = sym (append-nil before) in (
+        [],
+        transactions_of more,
+        refl,
+        subst (λ (l : List TransactionData). CanFollowDrop start device (paging device before) (paging device l)) same
+            (drop_stays start (paging device before) drops.0),
+        subst (λ (l : List TransactionData). IsMended start device l more (transactions_of more)) same
+            (said_mended start before more drops.1),
+      )
+
+  -- .. after lines that are mended
+  pub mended_on : (start : Start) (before : List TransactionData) (past : List PastData) (ts : List TransactionData)
+      (more : List PastData) → IsMended start device before past ts
+      → DropsOnOwnPage device (paging device (before ++ ts)) more
+      → IsMended start device before (past ++ more) (ts ++ transactions_of more)
+  mended_on start before [] ts more is drops =
+      subst (λ (l : List TransactionData). IsMended start device before more (l ++ transactions_of more)) (sym is)
+      (said_mended start before more
+      (subst (λ (l : List TransactionData). DropsOnOwnPage device (paging device l) more)
+      (ap (λ (l : List TransactionData). before ++ l) is ∙ append-nil before) drops))
+  mended_on start before (Said t ∷ past) ts more is drops = (
+    is.0 ++ transactions_of more,
+    ap (λ (l : List TransactionData). l ++ transactions_of more) is.1,
+    mended_on start (before ++ t ∷ []) past is.0 more is.2
+        (subst (λ (l : List TransactionData). DropsOnOwnPage device (paging device l) more)
+        (ap (λ (l : List TransactionData). before ++ l) is.1 ∙ sym (append_assoc before (t ∷ []) is.0)) drops),
+  )
+  mended_on start before (Dropped ∷ past) ts more is drops = (
+    is.0,
+    is.1 ++ transactions_of more,
+    ap (λ (l : List TransactionData). l ++ transactions_of more) is.2
+        ∙ append_assoc is.0 is.1 (transactions_of more),
+    is.3,
+    mended_on start (before ++ is.0) past is.1 more is.4
+        (subst (λ (l : List TransactionData). DropsOnOwnPage device (paging device l) more)
+        (ap (λ (l : List TransactionData). before ++ l) is.2 ∙ sym (append_assoc before is.0 is.1)) drops),
+  )
+
 -- ---- PHASE
+
+-- what is told on, where more was told before
+told_on : (front all : List RegisterTold) (more : List PastData)
+    → (before : List RegisterTold) × (fold told_then (front ++ all) more ≡ before ++ fold told_then all more)
+told_on front all [] = (front, refl)
+told_on front all (Said t ∷ more) =
+    let on = told_on front (all ++ told t) more in (
+      on.0,
+      ap (λ (l : List RegisterTold). fold told_then l more) (append_assoc front all (told t)) ∙ on.1,
+    )
+told_on front all (Dropped ∷ more) = ([], refl)
 
 -- what is told where nothing was dropped
 told_all : (all : List RegisterTold) (ts : List TransactionData)
@@ -145,19 +196,27 @@ last_of_both addr n (t ∷ front) all is =
 
 -- ---- the device with an address
 
-module _ (start : Start) (before : List TransactionData) (past : List PastData) (ts : List TransactionData) where
+-- .. whose PHASE was told in the piece, in lines that are mended or after them
+module _ (start : Start) (before : List TransactionData) (past : List PastData) (ts : List TransactionData)
+    (more : List PastData) where
   abbrev whole : List PastData
-  whole = map Said (before ++ ts)
+  whole = map Said (before ++ ts) ++ more
 
   last_stays : (device : DeviceParts) → IsMended start device before past ts → (addr n : ℕ)
-      → last_phase addr (told_since past) ≡ Some n → last_phase addr (told_since whole) ≡ Some n
+      → last_phase addr (told_since (past ++ more)) ≡ Some n → last_phase addr (told_since whole) ≡ Some n
   last_stays device is addr n last =
       let end = told_end start device before past ts [] is in
+      let front = flat_map told before ++ end.0 in
+      let on = told_on front (told_since past) more in
       ap (last_phase addr)
+      (fold-append told_then [] (map Said (before ++ ts)) more
+      ∙ ap (λ (l : List RegisterTold). fold told_then l more)
       (told_all [] (before ++ ts) ∙ flat_map-append told before ts
-      ∙ ap (λ (l : List RegisterTold). flat_map told before ++ l) end.1)
-      ∙ last_of_both addr n (flat_map told before) (end.0 ++ told_since past)
-      (last_of_both addr n end.0 (told_since past) last)
+      ∙ ap (λ (l : List RegisterTold). flat_map told before ++ l) end.1
+      ∙ sym (append_assoc (flat_map told before) end.0 (told_since past)))
+      ∙ on.1)
+      ∙ last_of_both addr n on.0 (fold told_then (told_since past) more)
+      (ap (last_phase addr) (sym (fold-append told_then [] past more)) ∙ last)
 
   phase_if : (has : Bool) (a b : Option ℕ) (n : ℕ) → (a ≡ Some n → b ≡ Some n) → cond has a None ≡ Some n
       → cond has b None ≡ Some n
@@ -166,12 +225,20 @@ module _ (start : Start) (before : List TransactionData) (past : List PastData) 
 
   phase_found : (addr n : ℕ) (found : Option DeviceParts)
       → ((device : DeviceParts) → found ≡ Some device → IsMended start device before past ts)
-      → option_and_then (phase_of addr past) found ≡ Some n → option_and_then (phase_of addr whole) found ≡ Some n
+      → option_and_then (phase_of addr (past ++ more)) found ≡ Some n
+      → option_and_then (phase_of addr whole) found ≡ Some n
   phase_found addr n None mended is = is
   phase_found addr n (Some device) mended is =
-      phase_if (is_some device.phases) (last_phase addr (told_since past)) (last_phase addr (told_since whole)) n
-      (λ last. last_stays device (mended device refl) addr n last) is
+      phase_if (is_some device.phases) (last_phase addr (told_since (past ++ more)))
+      (last_phase addr (told_since whole)) n (λ last. last_stays device (mended device refl) addr n last) is
 
+  pub phase_mended : (profile : List DeviceParts) → CanBeMended start profile before past ts → (addr n : ℕ)
+      → phase profile (past ++ more) addr ≡ Some n → phase profile whole addr ≡ Some n
+  phase_mended profile can addr n is =
+      phase_found addr n (device_with addr profile) (λ device found. (can addr device found).1) is
+
+-- .. and PAGE and VOUT_MODE
+module _ (start : Start) (before : List TransactionData) (past : List PastData) (ts : List TransactionData) where
   -- what the law `what_is_known_is_certain` says
   module _
       (certain_mode : (device : DeviceParts) (m : ℕ) → known_mode (known start device past) ≡ Known m
@@ -218,8 +285,3 @@ module _ (start : Start) (before : List TransactionData) (past : List PastData) 
       pub page_mended : (profile : List DeviceParts) → CanBeMended start profile before past ts → (addr n : ℕ)
           → page start profile past addr ≡ Some n → page_of_whole profile (before ++ ts) addr ≡ Some n
       page_mended profile can addr n is = page_found n (device_with addr profile) (can addr) is
-
-  pub phase_mended : (profile : List DeviceParts) → CanBeMended start profile before past ts → (addr n : ℕ)
-      → phase profile past addr ≡ Some n → phase profile whole addr ≡ Some n
-  phase_mended profile can addr n is =
-      phase_found addr n (device_with addr profile) (λ device found. (can addr device found).1) is

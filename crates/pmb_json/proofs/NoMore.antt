@@ -7,7 +7,7 @@ use Rattle.pmb_command.specs.Parts.{DeviceParts}
 use Rattle.pmb_facts.specs.Fact.{FactData}
 use Rattle.pmb_unknown_start.specs.declared.start.Start.{Start}
 use Rattle.pmb_unknown_start.specs.declared.start.Start.TheVariants.{AllKnown}
-use Rattle.pmb_unknown_start.specs.Past.{PastData, Said}
+use Rattle.pmb_unknown_start.specs.Past.{PastData, Said, Dropped}
 use Rattle.pmb_fact_stream.specs.Choice.{ChoiceData}
 use Rattle.pmb_json.specs.Pieces.{Timing, all_known}
 use Rattle.pmb_json.proofs.Cut.{HoldsAcross}
@@ -24,6 +24,7 @@ pub stand_after : (profile : List DeviceParts) (start : Start) (before : List Pa
     → StandBeside profile start AllKnown (IsAfter before) Ok
 stand_after profile start before Ok agree = record {
   step = λ x y t is. ap (λ (past : List PastData). past ++ Said t ∷ []) is ∙ append_assoc before x (Said t ∷ []);
+  drop = λ x y is. ap (λ (past : List PastData). past ++ Dropped ∷ []) is ∙ append_assoc before x (Dropped ∷ []);
   agree = agree;
 }
 

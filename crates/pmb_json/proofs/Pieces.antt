@@ -2,9 +2,9 @@
 -- whole's, but for places, and for what is not known in the piece. For the laws
 -- `pieces_say_no_more` and `texts_of_pieces_say_no_more`. Object by object, by PieceMembers, from
 -- what is known of PAGE, PHASE and VOUT_MODE in both (`Agree`).
-use Rattle.std.proofs.Common.{◌≡◌, ℕ, suc, ◌+◌, ◌/◌, Bool, Option, Some, None}
+use Rattle.std.proofs.Common.{◌≡◌, ℕ, suc, ◌+◌, ◌/◌, Bool, true, false, Option, Some, None}
 use Rattle.std.proofs.Common.{List, [], ◌∷◌, ◌++◌, codes, drop, take, length, map, refl, sym}
-use Rattle.std.proofs.Common.{ap, subst, length-take, length-drop, arith, ◌⊎◌, inl, inr}
+use Rattle.std.proofs.Common.{ap, subst, append-nil, length-take, length-drop, arith, ◌⊎◌, inl, inr}
 use Rattle.std.specs.List.{AllByRecursion}
 use Rattle.pmb_bus.specs.declared.event.Event.{Event}
 use Rattle.pmb_bus.specs.declared.event.Event.TheVariants.{Start, Byte, Ack, Nack, Stop}
@@ -17,7 +17,7 @@ use Rattle.pmb_unknown_start.specs.Certain.{AgreesWith, known_as}
 use Rattle.pmb_unknown_start.specs.declared.mode.KnownMode.{KnownMode}
 use Rattle.pmb_unknown_start.specs.declared.start.Start.{Start as LateStart}
 use Rattle.pmb_unknown_start.specs.Known.{mode, page}
-use Rattle.pmb_unknown_start.specs.Past.{PastData, Said}
+use Rattle.pmb_unknown_start.specs.Past.{PastData, Said, Dropped}
 use Rattle.pmb_unknown_start.specs.Phase.{phase}
 use Rattle.pmb_meaning.specs.Object.{says_members_of}
 use Rattle.pmb_voltage.specs.Voltage.{voltages_of}
@@ -48,7 +48,7 @@ use Rattle.pmb_json_objects.specs.Refusals.{said_device_members, written_members
 use Rattle.pmb_json_objects.specs.Seen.{SeenData, basis_at}
 use Rattle.pmb_fact_stream.specs.Others.{other_address}
 use Rattle.pmb_fact_stream.specs.Lines.{seen_behind}
-use Rattle.pmb_fact_stream.specs.Spans.{other_or, refused_span, span_facts}
+use Rattle.pmb_fact_stream.specs.Spans.{dropped_if, loses, lost, other_or, refused_span, span_facts}
 use Rattle.pmb_facts.specs.Fact.{FactData}
 use Rattle.pmb_facts.specs.Packets.{packet_facts, refused_fact, refused_facts, write_facts}
 use Rattle.pmb_transaction.specs.Reading.{RefusalData}
@@ -306,11 +306,12 @@ module _ (timing : Timing) (places : ℕ) (profile : List DeviceParts) (a b : La
 -- ---- spans
 
 -- What went before in a piece, beside what went before in the whole, which stay beside each other with a
--- transaction more. What is known of both agrees where some condition holds of what went before in the piece,
--- and it holds before each of its facts.
+-- transaction more, and with what is lost at a refusal. What is known of both agrees where some condition holds
+-- of what went before in the piece, and it holds before each of its facts.
 pub record StandBeside (profile : List DeviceParts) (a b : LateStart) (Beside : List PastData → List PastData → Type 0)
     (Ok : List PastData → Type 0) : Type 0 where
   pub step : (x y : List PastData) (t : TransactionData) → Beside x y → Beside (x ++ Said t ∷ []) (y ++ Said t ∷ [])
+  pub drop : (x y : List PastData) → Beside x y → Beside (x ++ Dropped ∷ []) (y ++ Dropped ∷ [])
   pub agree : (x y : List PastData) → Beside x y → Ok x → Agree profile a b x y
 
 module _ (of_packets : PacketsHaveObjects) (timing : Timing) (choice : ChoiceData) (profile : List DeviceParts)
@@ -423,25 +424,25 @@ module _ (of_packets : PacketsHaveObjects) (timing : Timing) (choice : ChoiceDat
 
   -- ---- spans
 
-  -- a refusal, or an other, and the spans after it
+  -- a refusal, or an other, and the spans after it, before which that went before
   refused_said_in : (n m : ℕ) (front : List Event) (event : Option Event) (refusal : RefusalData) (events : List Event)
-      (spans : List Span) (x y : List PastData) → TellEach timing n times theirs → Pasts x y
+      (spans : List Span) (x y u v : List PastData) → TellEach timing n times theirs → Pasts x y
       → AllOk (other_or place times m (other_address choice.ignored events)
-      (refused_span place times x m front event refusal ∷ []) ++ span_facts choice.ignored place times x spans)
-      → Beside (span_facts choice.ignored place times x spans)
-      (span_facts choice.ignored there theirs y (moved_spans n spans))
+      (refused_span place times x m front event refusal ∷ []) ++ span_facts choice.ignored place times u spans)
+      → Beside (span_facts choice.ignored place times u spans)
+      (span_facts choice.ignored there theirs v (moved_spans n spans))
       → Beside (other_or place times m (other_address choice.ignored events)
-      (refused_span place times x m front event refusal ∷ []) ++ span_facts choice.ignored place times x spans)
+      (refused_span place times x m front event refusal ∷ []) ++ span_facts choice.ignored place times u spans)
       (other_or there theirs (n + m) (other_address choice.ignored events)
       (refused_span there theirs y (n + m) front event refusal ∷ [])
-      ++ span_facts choice.ignored there theirs y (moved_spans n spans))
-  refused_said_in n m front event refusal events spans x y told pasts ok others =
+      ++ span_facts choice.ignored there theirs v (moved_spans n spans))
+  refused_said_in n m front event refusal events spans x y u v told pasts ok others =
       let addr = other_address choice.ignored events in
       let own = refused_span place times x m front event refusal ∷ [] in
       let beside = refused_span there theirs y (n + m) front event refusal ∷ [] in
       both_say_no_more timing profile in_piece in_whole (other_or place times m addr own)
-      (other_or there theirs (n + m) addr beside) (span_facts choice.ignored place times x spans)
-      (span_facts choice.ignored there theirs y (moved_spans n spans))
+      (other_or there theirs (n + m) addr beside) (span_facts choice.ignored place times u spans)
+      (span_facts choice.ignored there theirs v (moved_spans n spans))
       (either_said m (n + m) addr own beside (told m)
       (λ here. (
         refusal_said timing choice.digits profile a b x y (stand.agree x y pasts here.0)
@@ -450,12 +451,20 @@ module _ (of_packets : PacketsHaveObjects) (timing : Timing) (choice : ChoiceDat
         tt,
       ))
       (each_of_first (λ (fact : FactData). Ok fact.before) (other_or place times m addr own)
-      (span_facts choice.ignored place times x spans) ok))
+      (span_facts choice.ignored place times u spans) ok))
       others
 
   -- what is known of the facts after those of a span
   after_own : (own others : List FactData) → AllOk (own ++ others) → AllOk others
   after_own own others ok = each_of_second (λ (fact : FactData). Ok fact.before) own others ok
+
+  -- what went before stays beside each other with what is lost at a refusal
+  dropped_beside : (x y : List PastData) (loses : Bool) → Pasts x y
+      → Pasts (x ++ dropped_if loses) (y ++ dropped_if loses)
+  dropped_beside x y true pasts = stand.drop x y pasts
+  dropped_beside x y false pasts =
+      subst (λ (past : List PastData). Pasts past (y ++ [])) (sym (append-nil x))
+      (subst (λ (past : List PastData). Pasts x past) (sym (append-nil y)) pasts)
 
   pub spans_said : (n : ℕ) (spans : List Span) (x y : List PastData) → TellEach timing n times theirs → Pasts x y
       → AllOk (span_facts choice.ignored place times x spans)
@@ -477,10 +486,13 @@ module _ (of_packets : PacketsHaveObjects) (timing : Timing) (choice : ChoiceDat
   spans_said n (RefusedSpan m front event refusal ∷ spans) x y told pasts ok =
       let own = other_or place times m (other_address choice.ignored (front ++ event ∷ []))
       (refused_span place times x m front (Some event) refusal ∷ []) in
-      refused_said_in n m front (Some event) refusal (front ++ event ∷ []) spans x y told pasts ok
-      (spans_said n spans x y told pasts (after_own own (span_facts choice.ignored place times x spans) ok))
+      let u = x ++ lost front event refusal.reason in
+      let v = y ++ lost front event refusal.reason in
+      refused_said_in n m front (Some event) refusal (front ++ event ∷ []) spans x y u v told pasts ok
+      (spans_said n spans u v told (dropped_beside x y (loses front event refusal.reason) pasts)
+      (after_own own (span_facts choice.ignored place times u spans) ok))
   spans_said n (TruncatedSpan m front refusal ∷ spans) x y told pasts ok =
       let own = other_or place times m (other_address choice.ignored front)
       (refused_span place times x m front None refusal ∷ []) in
-      refused_said_in n m front None refusal front spans x y told pasts ok
+      refused_said_in n m front None refusal front spans x y x y told pasts ok
       (spans_said n spans x y told pasts (after_own own (span_facts choice.ignored place times x spans) ok))

@@ -13,7 +13,7 @@ use Rattle.pmb_spans.specs.Spans.{Span, ReadSpan, RefusedSpan, TruncatedSpan, mo
 use Rattle.pmb_transaction.specs.Transaction.{PartData, RefusedData, TransactionData}
 use Rattle.pmb_transaction.specs.Transaction.{Write, Read, Call, Refused, Alert, NoAlert}
 use Rattle.pmb_fact_stream.specs.Others.{other_address}
-use Rattle.pmb_fact_stream.specs.Spans.{other_or, refused_span, span_facts}
+use Rattle.pmb_fact_stream.specs.Spans.{lost, other_or, refused_span, span_facts}
 use Rattle.pmb_unknown_start.specs.Past.{PastData, Said}
 use Rattle.pmb_json.specs.Cut.{said_in}
 use Rattle.pmb_json.specs.Pieces.{Timing}
@@ -104,8 +104,10 @@ module _ (ignored : Option (List ℕ)) (place there : ℕ → Place) (times thei
       let own = refused_span place times x m front (Some event) refusal ∷ [] in
       let beside = refused_span there theirs y (n + m) front (Some event) refusal ∷ [] in
       both_say_the_same (other_or place times m addr own) (other_or there theirs (n + m) addr beside)
-      (span_facts ignored place times x spans) (span_facts ignored there theirs y (moved_spans n spans))
-      (either_says m (n + m) addr own beside refl) (spans_say n spans x y)
+      (span_facts ignored place times (x ++ lost front event refusal.reason) spans)
+      (span_facts ignored there theirs (y ++ lost front event refusal.reason) (moved_spans n spans))
+      (either_says m (n + m) addr own beside refl)
+      (spans_say n spans (x ++ lost front event refusal.reason) (y ++ lost front event refusal.reason))
   spans_say n (TruncatedSpan m front refusal ∷ spans) x y =
       let addr = other_address ignored front in
       let own = refused_span place times x m front None refusal ∷ [] in

@@ -95,10 +95,10 @@ pub record CanBeCutBehind (profile : List DeviceParts) (start : Start) (front : 
   pub told : (addr : ℕ) (device : DeviceParts) → device_with addr profile ≡ Some device
       → CanBeCutAfter start device (past_in spans)
 
--- ---- lines of a piece that were dropped
+-- ---- lines of a piece that were dropped, and what was lost at its refusals
 
 -- What went before in a piece, with these before it in the whole: PAGE of each device is a page that it has,
--- or ffh, at each line of the piece that was dropped.
+-- or ffh, at each line of the piece that was dropped, and at each refusal at which something was lost.
 abbrev pub DropsOnOwnPages : List DeviceParts → List PastData → List PastData → Type 0
 DropsOnOwnPages profile before past = (addr : ℕ) (device : DeviceParts) → device_with addr profile ≡ Some device
     → DropsOnOwnPage device (paging device (transactions_of before)) past

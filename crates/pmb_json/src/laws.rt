@@ -23,7 +23,6 @@ ghost use Rattle.pmb_json_text.specs.Member.{Member};
 ghost use Rattle.pmb_json_text.specs.Spelling.{AreBytes};
 ghost use Rattle.pmb_places.specs.declared.places.Place.{Place};
 ghost use Rattle.pmb_scan.specs.declared.after_bad_token.AfterBadToken.{AfterBadToken};
-ghost use Rattle.pmb_scan.specs.declared.after_bad_token.AfterBadToken.TheVariants.{Continue};
 ghost use Rattle.pmb_spans.specs.Spans.{Span, moved_spans};
 ghost use Rattle.pmb_telling.specs.SoFar.{HasTold};
 ghost use Rattle.pmb_telling.specs.Text.{BadLine, FactsFrom, WritesTold};
@@ -91,13 +90,14 @@ pub fn meanings_of_pieces_are_of_the_whole()
 /// only assumed. So it is under a profile that is accepted, if before the piece PAGE was only written to, or
 /// read as, pages that the device has, or ffh, and with `--fixed-vout-mode` if on each page VOUT_MODE is that
 /// of the profile where the piece begins, by what was written to it or read as it. Lines of the piece may have
-/// been dropped, in the whole as well, if PAGE, as the whole was told it, is such a page at each of them. A time
-/// that the piece tells is that of the whole.
+/// been dropped, in the whole as well, and packets of it refused, if PAGE, as the whole was told it, is such a
+/// page at each of these lines and at each refusal at which something may be lost. A time that the piece tells
+/// is that of the whole.
 pub fn pieces_say_no_more()
     ensures { (choice : ChoiceData) (profile : List DeviceParts) (place there : ℕ → Place) (times theirs : ℕ → Option (List ℕ)) (before within : List PastData) (n : ℕ) (spans : List Span)
         → IsBus profile → choice.start ≢ AllKnown → TellNoMore n times theirs
         → ((addr : ℕ) (device : DeviceParts) → device_with addr profile ≡ Some device → CanBeCutAfter choice.start device before)
-        → DropsOnOwnPages profile before within
+        → DropsOnOwnPages profile before (within ++ past_in spans)
         → EachSaysNoMore SameTimes (objects_of choice profile (span_facts choice.ignored place times within spans))
         (objects_of (all_known choice) profile (span_facts choice.ignored there theirs (before ++ within) (moved_spans n spans))) }
 {
@@ -108,13 +108,16 @@ pub fn pieces_say_no_more()
 
 /// A capture that has lost lines says nothing that was not so on the bus: where it is read late, and reading
 /// continues after lines that are dropped, each of its objects says what that of the capture with these lines
-/// says, but for where it stands, and for what isn't known, or is only assumed. So it is whatever packets the
-/// lines had, if after them PAGE of each device is a page that it has, or ffh; and if VOUT_MODE is taken for
-/// fixed, if on each page it is what it was before the line. Where the capture begins each device is to have such
-/// a PAGE, and such a VOUT_MODE on each page. A time that the piece tells is that of the whole.
+/// says, but for where it stands, and for what isn't known, or is only assumed. So it is whatever whole packets
+/// the lines had, if what follows them reads as the same packets and refusals, if after them PAGE of each device
+/// is a page that it has, or ffh; and if VOUT_MODE is taken for fixed, if on each page it is what it was before
+/// the line. Where the capture begins each device is to have such a PAGE, and if VOUT_MODE is taken for fixed that
+/// of the profile on each page. Such a PAGE it is to have too at each refusal after those lines at which something
+/// may be lost. A time that the piece tells is that of the whole.
 pub fn damaged_pieces_say_no_more()
     ensures { (choice : ChoiceData) (profile : List DeviceParts) (place there : ℕ → Place) (times theirs : ℕ → Option (List ℕ)) (before ts : List TransactionData) (within : List PastData) (n : ℕ) (spans : List Span)
         → TellNoMore n times theirs → CanBeMended choice.start profile before within ts
+        → DropsOnOwnPages profile (map Said (before ++ ts)) (past_in spans)
         → EachSaysNoMore SameTimes (objects_of choice profile (span_facts choice.ignored place times within spans))
         (objects_of (all_known choice) profile (span_facts choice.ignored there theirs (map Said (before ++ ts)) (moved_spans n spans))) }
 {
@@ -127,21 +130,22 @@ pub fn damaged_pieces_say_no_more()
 /// each of the rest's, whose object says no more than that of the whole: so each `value` that the rest
 /// gives is that of the whole, and each `time` too where the cut is at a line's end. (Where it is in the
 /// middle of a line, a comment after it can look like a time line of the rest.) So it is under a profile
-/// that is accepted, and where reading continues after lines of the rest that are dropped, if PAGE of each
-/// device is a page that it has, or ffh, at each of these lines that a fact follows.
+/// that is accepted, if PAGE of each device is a page that it has, or ffh, at each line of the rest that is
+/// dropped and that a fact follows, and at each of its refusals that a fact follows, if something may be lost
+/// there.
 pub fn texts_of_pieces_say_no_more()
     ensures values { (choice : ChoiceData) (profile : List DeviceParts) (after : AfterBadToken) (front back : List ℕ)
         (bad lines : List BadLine) (facts whole : List FactData) (c d : CountsData) → IsBus profile → choice.start ≢ AllKnown → (first : CanBeCutBehind profile choice.start front)
         → FactsFrom choice.ignored profile after at_first back bad facts c
         → FactsFrom choice.ignored profile after at_first (front ++ back) lines whole d
-        → (after ≡ Continue → AllDropsOnOwnPages profile (past_in first.spans) facts)
+        → AllDropsOnOwnPages profile (past_in first.spans) facts
         → (firsts : List FactData) × (others : List FactData) × (whole ≡ firsts ++ others)
         × EachSaysNoMore OtherTimes (objects_of choice profile facts) (objects_of (all_known choice) profile others) }
     ensures times { (choice : ChoiceData) (profile : List DeviceParts) (after : AfterBadToken) (front back : List ℕ)
         (bad lines : List BadLine) (facts whole : List FactData) (c d : CountsData) → IsBus profile → choice.start ≢ AllKnown → (first : CanBeCutBehind profile choice.start front) → EndsWithLine front
         → FactsFrom choice.ignored profile after at_first back bad facts c
         → FactsFrom choice.ignored profile after at_first (front ++ back) lines whole d
-        → (after ≡ Continue → AllDropsOnOwnPages profile (past_in first.spans) facts)
+        → AllDropsOnOwnPages profile (past_in first.spans) facts
         → (firsts : List FactData) × (others : List FactData) × (whole ≡ firsts ++ others)
         × EachSaysNoMore SameTimes (objects_of choice profile facts) (objects_of (all_known choice) profile others) }
 {

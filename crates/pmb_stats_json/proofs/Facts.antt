@@ -10,7 +10,7 @@ use Rattle.pmb_facts.specs.Fact.{FactData}
 use Rattle.pmb_facts.specs.Packets.{packet_facts, refused_fact, write_facts}
 use Rattle.pmb_fact_stream.specs.Before.{Before}
 use Rattle.pmb_fact_stream.specs.Others.{is_told, other_address}
-use Rattle.pmb_fact_stream.specs.Spans.{event_place, event_time, other_or, refused_span, span_facts}
+use Rattle.pmb_fact_stream.specs.Spans.{event_place, event_time, lost, other_or, refused_span, span_facts}
 use Rattle.pmb_fact_stream.specs.UnderWay.{open_time, time_of_some, under_way, up_to_stop}
 use Rattle.pmb_json.proofs.EachOf.{each_filtered, each_of_both}
 use Rattle.pmb_json.proofs.JsonSpans.{AllSayPackets, SaysPacket, spans_say_packets}
@@ -107,9 +107,10 @@ module _ (ignored : Option (List ℕ)) (profile : List DeviceParts) where
     spans_of_bytes before (RefusedSpan n front event refusal ∷ spans) say =
         let own = refused_span place times before n front (Some event) refusal ∷ [] in
         let addr = other_address ignored (front ++ event ∷ []) in
-        each_of_both IsOfBytes (other_or place times n addr own) (span_facts ignored place times before spans)
+        each_of_both IsOfBytes (other_or place times n addr own)
+        (span_facts ignored place times (before ++ lost front event refusal.reason) spans)
         (either_of_bytes n addr own (refusal_of_bytes before n front (Some event) refusal))
-        (spans_of_bytes before spans say.1)
+        (spans_of_bytes (before ++ lost front event refusal.reason) spans say.1)
     spans_of_bytes before (TruncatedSpan n front refusal ∷ spans) say =
         let own = refused_span place times before n front None refusal ∷ [] in
         let addr = other_address ignored front in

@@ -12,7 +12,7 @@ use Rattle.pmb_facts.specs.Packets.{packet_facts}
 use Rattle.pmb_fact_stream.specs.Before.{Before}
 use Rattle.pmb_fact_stream.specs.Others.{other_address}
 use Rattle.pmb_fact_stream.specs.Spans.{bad_token_fact, event_place, event_time, other_fact, other_or, refusal_fact}
-use Rattle.pmb_fact_stream.specs.Spans.{refused_span, span_facts}
+use Rattle.pmb_fact_stream.specs.Spans.{lost, refused_span, span_facts}
 use Rattle.pmb_json.proofs.EachOf.{each_of_both}
 use Rattle.pmb_json_objects.specs.Counts.{CountsData}
 use Rattle.pmb_json_objects.specs.Head.{Head, head_at}
@@ -80,10 +80,10 @@ module _ (P : FactData → Type 0) (ignored : Option (List ℕ)) (profile : List
         let all = front ++ event ∷ [] in
         let own = refused_span place times before n front (Some event) refusal ∷ [] in
         each_of_both P (other_or place times n (other_address ignored all) own)
-        (span_facts ignored place times before spans)
+        (span_facts ignored place times (before ++ lost front event refusal.reason) spans)
         (span_holds n all own spelled.0.1
         (refused_holds before n front (Some event) refusal (bytes_of_first front (event ∷ []) spelled.0.1)))
-        (spans_hold before spans spelled.1)
+        (spans_hold (before ++ lost front event refusal.reason) spans spelled.1)
     spans_hold before (TruncatedSpan n front refusal ∷ spans) spelled =
         let own = refused_span place times before n front None refusal ∷ [] in
         each_of_both P (other_or place times n (other_address ignored front) own)

@@ -13,7 +13,7 @@ use Rattle.pmb_facts.specs.Packets.{fact_at, packet_facts, refused_fact, write_f
 use Rattle.pmb_fact_stream.specs.Before.{Before}
 use Rattle.pmb_fact_stream.specs.Others.{other_address}
 use Rattle.pmb_fact_stream.specs.Spans.{after_either, after_reported, after_span, after_spans, event_place, event_time}
-use Rattle.pmb_fact_stream.specs.Spans.{other_fact, other_or, refused_span, span_facts}
+use Rattle.pmb_fact_stream.specs.Spans.{lost, other_fact, other_or, refused_span, span_facts}
 use Rattle.pmb_json_objects.specs.Counts.{CountsData, after_bad_token, after_other, after_packet, after_refusal}
 use Rattle.pmb_json_objects.specs.Head.{head_at}
 use Rattle.pmb_json_objects.specs.Packets.{starts}
@@ -225,13 +225,13 @@ module _ (count : CountsData → ℕ) (weight : WhatData → ℕ) (agrees : Agre
         let other = other_address ignored (front ++ event ∷ []) in
         let own = refused_span place times before n front (Some event) refusal in
         span_more (count c) (count (after_span ignored c span)) (count (after_spans ignored c (span ∷ spans)))
-        (other_or place times n other (own ∷ [])) (span_facts ignored place times before spans)
+        (other_or place times n other (own ∷ [])) (span_facts ignored place times (before ++ lost front event refusal.reason) spans)
         (either_agrees c n other span (own ∷ []) (omega (
           arith,
           agrees.refusal c front (Some event) refusal.reason refusal.expected,
           weigh_one weight own,
         )))
-        (spans_agree (after_span ignored c span) before spans spelled.1)
+        (spans_agree (after_span ignored c span) (before ++ lost front event refusal.reason) spans spelled.1)
     spans_agree c before (TruncatedSpan n front refusal ∷ spans) spelled =
         let span = TruncatedSpan n front refusal in
         let other = other_address ignored front in

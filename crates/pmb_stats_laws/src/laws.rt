@@ -74,9 +74,10 @@ pub fn the_whole_is_its_devices()
     devices_make_the_whole();
 }
 
-/// What is counted of a capture's facts is what the last objects of `json`, and the tally of `check`, tell of it: of
-/// each device and in all. Refused legs are told together, wherever they were refused, and refusals together,
-/// whatever their reasons.
+/// What is counted of a capture's facts is what the last objects of `json` tell of it, before these stop at the
+/// greatest u64: of each device its writes, reads, calls, refused legs, refusals and others, and in all the packets,
+/// refusals, bad tokens and others. Refused legs are told together, wherever they were refused, and refusals
+/// together, whatever their reasons. Alerts are counted, and not told.
 pub fn counts_are_those_of_json()
     ensures { (ignored : Option (List ℕ)) (profile : List DeviceParts) (after : AfterBadToken) (bytes : List ℕ) (facts : List FactData)
         → (are : AreFactsOf ignored profile after bytes facts) → CountsAreTold facts are.counts }
@@ -94,8 +95,9 @@ pub fn told_counts_of_pieces_add_up()
     counts_are_those_of_json();
 }
 
-/// And so do the tallies of what `json`, `log` and `stats` write of them, which stay at the greatest u64, as those
-/// of a check do (`counts_add_up` of `pmb_capture`). A bad token is a refusal there, and others are nothing.
+/// And so do the tallies of what `json` and `log` write of them, which stay at the greatest u64, as those of a check
+/// do (`counts_add_up` of `pmb_capture`). A bad token is a refusal there, and others are nothing. (The tally of
+/// `stats` has one refusal at most, so no sum is like it.)
 pub fn tallies_of_pieces_add_up()
     ensures { (choice : ChoiceData) (profile : List DeviceParts) (after : AfterBadToken) (front back a b text : List ℕ) (s t tally : Tally)
         → IsBus profile → EndsAtCut front → WritesTold choice profile after front a s → WritesTold choice profile after back b t

@@ -1,7 +1,7 @@
 -- The facts and counts of lists of spans: one list after another, and spans that are moved by a
 -- number of events. For the law `moved_spans_count_the_same`, all files here that join lists, and
 -- the pieces of `pmb_json`. Moving a span changes where its events are counted, and neither its
--- transaction nor whether it is told.
+-- transaction, nor what is lost at it, nor whether it is told.
 use Rattle.std.proofs.Common.{◌≡◌, ◌||◌, ℕ, Bool, true, false, cond, Option, Some, None, List, [], ◌∷◌, ◌++◌, filter}
 use Rattle.std.proofs.Common.{flat_map}
 use Rattle.std.proofs.Common.{refl, sym}
@@ -22,7 +22,7 @@ use Rattle.pmb_spans.specs.Spans.{Span, ReadSpan, RefusedSpan, TruncatedSpan, is
 use Rattle.pmb_fact_stream.specs.Choice.{ChoiceData}
 use Rattle.pmb_fact_stream.specs.Others.{is_other, is_told, other_address, span_events}
 use Rattle.pmb_fact_stream.specs.Spans.{after_either, after_reported, after_span, after_spans, other_or, refused_span}
-use Rattle.pmb_fact_stream.specs.Spans.{past_in, span_facts}
+use Rattle.pmb_fact_stream.specs.Spans.{lost, past_in, span_facts}
 use Rattle.pmb_unknown_start.specs.Past.{PastData, Said}
 
 -- ---- lines
@@ -41,13 +41,16 @@ pub past_moved : (n : ℕ) (spans : List Span) → past_in (moved_spans n spans)
 past_moved n [] = refl
 past_moved n (ReadSpan m events t ∷ spans) = ap (λ (past : List PastData). Said t ∷ past)
     (past_moved n spans)
-past_moved n (RefusedSpan m front event refusal ∷ spans) = past_moved n spans
+past_moved n (RefusedSpan m front event refusal ∷ spans) = ap (λ (past : List PastData). lost front event refusal.reason ++ past)
+    (past_moved n spans)
 past_moved n (TruncatedSpan m front refusal ∷ spans) = past_moved n spans
 
 pub past_append : (a b : List Span) → past_in (a ++ b) ≡ past_in a ++ past_in b
 past_append [] b = refl
 past_append (ReadSpan m events t ∷ a) b = ap (λ (past : List PastData). Said t ∷ past) (past_append a b)
-past_append (RefusedSpan m front event refusal ∷ a) b = past_append a b
+past_append (RefusedSpan m front event refusal ∷ a) b =
+    ap (λ (past : List PastData). lost front event refusal.reason ++ past) (past_append a b)
+    ∙ sym (append_assoc (lost front event refusal.reason) (past_in a) (past_in b))
 past_append (TruncatedSpan m front refusal ∷ a) b = past_append a b
 
 -- where these addresses are ignored
@@ -155,9 +158,12 @@ module _ (ignored : Option (List ℕ)) (place : ℕ → Place) (times : ℕ → 
   facts_append before (RefusedSpan n front event refusal ∷ a) b =
       let own = other_or place times n (other_address ignored (front ++ event ∷ []))
       (refused_span place times before n front (Some event) refusal ∷ []) in
-      ap (λ (l : List FactData). own ++ l) (facts_append before a b)
-      ∙ sym (append_assoc own (span_facts ignored place times before a)
-      (span_facts ignored place times (before ++ past_in a) b))
+      ap (λ (l : List FactData). own ++ l)
+      (facts_append (before ++ lost front event refusal.reason) a b
+      ∙ ap (λ (past : List PastData). span_facts ignored place times (before ++ lost front event refusal.reason) a
+      ++ span_facts ignored place times past b) (append_assoc before (lost front event refusal.reason) (past_in a)))
+      ∙ sym (append_assoc own (span_facts ignored place times (before ++ lost front event refusal.reason) a)
+      (span_facts ignored place times (before ++ (lost front event refusal.reason ++ past_in a)) b))
   facts_append before (TruncatedSpan n front refusal ∷ a) b =
       let own = other_or place times n (other_address ignored front)
       (refused_span place times before n front None refusal ∷ []) in

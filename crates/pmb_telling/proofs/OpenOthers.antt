@@ -27,7 +27,7 @@ use Rattle.pmb_facts.specs.Fact.{FactData}
 use Rattle.pmb_facts.specs.Packets.{packet_facts}
 use Rattle.pmb_fact_stream.specs.Others.{is_told, is_untold, other_address, span_events}
 use Rattle.pmb_fact_stream.specs.Spans.{IsNoneOutside, after_open, after_spans, open_facts, other_or, refused_span}
-use Rattle.pmb_fact_stream.specs.Spans.{event_place, event_time, past_in, span_facts}
+use Rattle.pmb_fact_stream.specs.Spans.{event_place, event_time, lost, past_in, span_facts}
 use Rattle.pmb_fact_stream.specs.Before.{Before}
 use Rattle.pmb_telling.specs.Text.{text_facts}
 use Rattle.pmb_telling.proofs.Facts.{facts_append, past_moved}
@@ -290,7 +290,7 @@ module _ (ignored : Option (List ℕ)) (under : List DeviceParts) (place : ℕ �
             (address_of addr events is (goes_on under front under_way n more (ReadSpan k events t) others reads)),
       )
   left_of more (RefusedSpan k events event refusal ∷ others) (Some addr) reads is =
-      let rest = span_facts ignored place times before (moved_spans m others) in (
+      let rest = span_facts ignored place times (before ++ lost events event refusal.reason) (moved_spans m others) in (
         rest,
         is_first k addr (other_address ignored (events ++ event ∷ []))
             (refused_span place times before (m + k) events (Some event) refusal ∷ []) rest reads.0

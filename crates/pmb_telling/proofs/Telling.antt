@@ -8,7 +8,6 @@ use Rattle.pmb_io.specs.Engines.{Either, PutsOut}
 use Rattle.pmb_io.specs.declared.engine.Flow.{Flow}
 use Rattle.pmb_io.specs.declared.engine.Flow.TheVariants.{More, Stop}
 use Rattle.pmb_io.specs.declared.fault.RunFault.{RunFault}
-use Rattle.pmb_io.specs.declared.tally.Tally.{Tally}
 use Rattle.pmb_keeper.specs.Setting.{IsNothing}
 use Rattle.pmb_keeper.specs.declared.nothing.Nothing.{Nothing}
 use Rattle.pmb_scan.specs.declared.after_bad_token.AfterBadToken.{AfterBadToken}
@@ -18,7 +17,7 @@ use Rattle.pmb_telling.specs.Tell.{StopsTold}
 use Rattle.pmb_telling.specs.Teller.{TellerStands, counted_by}
 use Rattle.pmb_telling.specs.Text.{WritesTold}
 use Rattle.pmb_telling.specs.machine.Standing.{HasEnded, HasPutOut, HasStopped, teller_bad_words, teller_choice}
-use Rattle.pmb_telling.specs.machine.Standing.{teller_profile, teller_tally}
+use Rattle.pmb_telling.specs.machine.Standing.{teller_profile}
 
 -- what holds under what a `Teller` was made of holds under the same by other names
 pub named : (Holds : ChoiceData → List DeviceParts → AfterBadToken → Type 0) (start : Teller Nothing)

@@ -1,8 +1,9 @@
--- What went before a place in a capture: what was said, and where a line was dropped.
+-- What went before a place in a capture: what was said, and where a line was dropped. A packet in which an event was
+-- refused counts as such a line, with all that is passed over.
 use Rattle.std.specs.Prelude.{List, [], ◌∷◌}
 use Rattle.pmb_transaction.specs.Transaction.{TransactionData}
 
--- A transaction, or a line that was dropped, after which nobody knows what the devices were told in it.
+-- A transaction, or a line that was dropped: nobody knows what the devices were told in it.
 pub data PastData : Type 0 where
   Said : TransactionData → PastData
   Dropped : PastData

@@ -12,15 +12,15 @@ is_restore code = nat_eq code 0x12 || (nat_eq code 0x14 || (nat_eq code 0x16 || 
 abbrev pub page_plus_write_code : ℕ
 page_plus_write_code = 0x05
 
--- .. and the command is VOUT_MODE
-abbrev pub is_mode_on_page : List ℕ → Bool
-is_mode_on_page [] = false
-is_mode_on_page (page ∷ []) = false
-is_mode_on_page (page ∷ code ∷ bytes) = nat_eq code vout_mode_code
+-- .. and the command is VOUT_MODE, or one of those with which the device takes what it has stored
+abbrev pub sets_mode_on_page : List ℕ → Bool
+sets_mode_on_page [] = false
+sets_mode_on_page (page ∷ []) = false
+sets_mode_on_page (page ∷ code ∷ bytes) = nat_eq code vout_mode_code || is_restore code
 
 -- whether VOUT_MODE of a device is untold after a complete write with a code and these data
 abbrev pub untells_mode : ℕ → List ℕ → Bool
-untells_mode code bytes = is_restore code || (nat_eq code page_plus_write_code && is_mode_on_page bytes)
+untells_mode code bytes = is_restore code || (nat_eq code page_plus_write_code && sets_mode_on_page bytes)
 
 -- .. after such a write to this device
 abbrev pub untells : ℕ → RegisterTold → Bool

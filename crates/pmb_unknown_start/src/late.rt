@@ -34,8 +34,9 @@ const ADDRESSES: u8 = 128;
 /// that of a device's only page, and of several pages those stay known that had the same one.
 ///
 /// After a write of RESTORE_DEFAULT_ALL, RESTORE_DEFAULT_CODE, RESTORE_USER_ALL or RESTORE_USER_CODE
-/// (12h, 14h, 16h, 18h), and of VOUT_MODE by PAGE_PLUS_WRITE (05h), VOUT_MODE of that device is
-/// untold: it is unknown again with [`Start::Late`], and keeps its last value with another start.
+/// (12h, 14h, 16h, 18h), and of one of these or VOUT_MODE by PAGE_PLUS_WRITE (05h), VOUT_MODE of that
+/// device is untold: it is unknown again with [`Start::Late`], and keeps its last value with another
+/// start.
 ///
 /// After a line that was dropped ([`Late::drop_line`]) PAGE and VOUT_MODE of each device are unknown
 /// again with [`Start::Late`], and PAGE alone with [`Start::LateFixedMode`]. With [`Start::AllKnown`]
@@ -79,7 +80,7 @@ impl<'p> Late<'p> {
         self.phases.observe(transaction);
     }
 
-    /// A line of the capture was dropped, and what it did is not known.
+    /// A line of the capture was dropped, or a packet refused, and what it did is not known.
     pub fn drop_line(&mut self)
         ensures { (profile : List DeviceParts) (start : StartData) (past : List PastData) → HasSeen self.old profile start past
             → HasSeen self.new profile start (past ++ Dropped ∷ []) }

@@ -4,7 +4,7 @@
 //! Its rows: `tests_lines`, `src/late/restores.rt`.
 
 ghost use Rattle.std.specs.Prelude.{◌≡◌, ◌||◌, ◌&&◌};
-ghost use Rattle.pmb_unknown_start.specs.Restores.{is_mode_on_page, is_restore, untells_mode};
+ghost use Rattle.pmb_unknown_start.specs.Restores.{sets_mode_on_page, is_restore, untells_mode};
 
 /// The codes of the commands with which a device takes what it has stored (PMBus Part II 1.3 section
 /// 11).
@@ -26,7 +26,7 @@ const VOUT_MODE: u8 = 0x20;
 pub(crate) fn untells_mode(code: u8, bytes: &[u8]) -> bool
     ensures { result ≡ untells_mode code bytes.now }
 {
-    is_restore(code) || code == PAGE_PLUS_WRITE && is_mode_on_page(bytes)
+    is_restore(code) || code == PAGE_PLUS_WRITE && sets_mode_on_page(bytes)
 }
 
 // Whether a device takes what it has stored.
@@ -39,12 +39,13 @@ fn is_restore(code: u8) -> bool
         || code == RESTORE_USER_CODE
 }
 
-// Whether data of PAGE_PLUS_WRITE, a page, a code and what is written there, are for VOUT_MODE.
-fn is_mode_on_page(bytes: &[u8]) -> bool
-    ensures { result ≡ is_mode_on_page bytes.now }
+// Whether data of PAGE_PLUS_WRITE, a page, a code and what is written there, set VOUT_MODE: they are
+// for it, or have the device take what it has stored.
+fn sets_mode_on_page(bytes: &[u8]) -> bool
+    ensures { result ≡ sets_mode_on_page bytes.now }
 {
     match bytes {
-        [_, code, ..] => *code == VOUT_MODE,
+        [_, code, ..] => *code == VOUT_MODE || is_restore(*code),
         _ => false,
     }
 }

@@ -1,5 +1,5 @@
 -- Where a lexer stands in a text, and the lexer of `pmb_bus` that continues in the same way.
-use Rattle.std.specs.Prelude.{◌≡◌, ℕ, ◌≤◌, true, false, Option, Some, None, List, [], ◌∷◌, ◌++◌, length, codes}
+use Rattle.std.specs.Prelude.{◌≡◌, ℕ, ◌<◌, ◌≤◌, true, false, Option, Some, None, List, [], ◌∷◌, ◌++◌, length, codes}
 use Rattle.pmb_bus.specs.declared.event.Event.{Event}
 use Rattle.pmb_bus.specs.declared.lexer.LexFault.{LexFault}
 use Rattle.pmb_bus.specs.declared.lexer.LexFault.TheVariants.{BadToken}
@@ -22,10 +22,10 @@ pub record IsOpen (text word : List ℕ) : Type 0 where
   pub clear : ends_in_comment word ≡ false
   pub none_ended : ended_words word ≡ []
 
--- what the place of a lexer says of a text of n bytes
+-- What the place of a lexer says of a text of n bytes. In a comment one of them was its `#`.
 pub data IsPlace (lexer : PmbLexer) (n : ℕ) (text : List ℕ) : Type 0 where
   between : lexer.place ≡ 0 → EndsBetween text → IsPlace lexer n text
-  comment : lexer.place ≡ 1 → open_word text ≡ [] → ends_in_comment text ≡ true → IsPlace lexer n text
+  comment : lexer.place ≡ 1 → open_word text ≡ [] → ends_in_comment text ≡ true → 0 < n → IsPlace lexer n text
   one : lexer.place ≡ 2 → IsOpen text (lexer.first ∷ []) → WordBeginsAt n text lexer.at → IsPlace lexer n text
   two : lexer.place ≡ 3 → IsOpen text (lexer.first ∷ lexer.second ∷ []) → WordBeginsAt n text lexer.at
       → IsPlace lexer n text

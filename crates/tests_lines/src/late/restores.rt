@@ -61,7 +61,7 @@ paged = false
 
 /// Lines under the profile.
 #[rattlefmt::skip]
-static ROWS: [Row; 54] = [
+static ROWS: [Row; 60] = [
     // Each restore, on a device with one page.
     (Late, "write 59 20 14\nwrite 59 12", 0x59, Unknown, true),
     (Late, "write 59 20 14\nwrite 59 14 20", 0x59, Unknown, true),
@@ -107,6 +107,13 @@ static ROWS: [Row; 54] = [
     (Late, "write 59 20 14\nwrite 59 05 20 00 17", 0x59, Known(0x14), false),
     (Late, "write 59 20 14\nwrite 59 05 20", 0x59, Known(0x14), false),
     (Late, "write 59 20 14\nwrite 59 05 00 20", 0x59, Unknown, true),
+    // .. or a restore by it.
+    (Late, "write 59 20 14\nwrite 59 05 00 12", 0x59, Unknown, true),
+    (AllKnown, "write 59 20 14\nwrite 59 05 00 14 20", 0x59, Known(0x14), true),
+    (LateFixedMode, "write 59 05 ff 16", 0x59, Known(0x13), true),
+    (Late, "write 59 20 14\nwrite 59 05 01 18 20", 0x59, Unknown, true),
+    (Late, "write 59 20 14\nwrite 59 05 00 13", 0x59, Known(0x14), false),
+    (Late, "write 59 20 14\nwrite 59 05 12 21 00 18", 0x59, Known(0x14), false),
     // In a group, and before a leg that was refused; not in that leg.
     (Late, "write 59 20 14\nwrite 58 00 01 + 59 12", 0x59, Unknown, true),
     (Late, "write 59 20 14\nwrite 59 12 + 58 00 01", 0x59, Unknown, true),

@@ -1,4 +1,4 @@
-use Rattle.std.proofs.Common.{◌∙◌, inl, inr, refl, subst, sym}
+use Rattle.std.proofs.Common.{◌∙◌, [], inl, inr, refl, subst, sym}
 use Rattle.pmb_convert.specs.Lines.{converting}
 use Rattle.pmb_convert.specs.declared.conversion.Conversion.{Conversion}
 use Rattle.pmb_io.specs.Runs.{AsTool, Ran}
@@ -9,8 +9,8 @@ use Rattle.pmb_cli.proofs.Statuses.{run_did, run_unrefused, status_tells}
 use Rattle.pmb_cli.proofs.tasks.run_lines.Goals as goal
 
 -- The text names a format: its lines are converted, and there is no fault of memory or of a profile.
-pub returns-in-Ok : goal.returns-in-Ok
-returns-in-Ok g c =
+pub returns-in-Ok-clause-did : goal.returns-in-Ok-clause-did
+returns-in-Ok-clause-did g c =
     let ran = subst (λ (conversion : Conversion). AsTool
     (Ran g.R.Source.told g.W.Sink.told (converting conversion) _ (c.args.reader.now, c.args.out.now)
     (c.convert_lines.new.reader, c.convert_lines.new.writer)) c.convert_lines.result) c.conversion.ensures
@@ -35,8 +35,8 @@ returns-in-Ok g c =
     }
 
 -- It names none: nothing is read.
-pub returns-in-Err : goal.returns-in-Err
-returns-in-Err g c =
+pub returns-in-Err-clause-did : goal.returns-in-Err-clause-did
+returns-in-Err-clause-did g c =
     let bad = c.report_format.ensures.status in
     record {
       did = does_none _ _ _ _ _ (inl bad);
@@ -47,3 +47,16 @@ returns-in-Err g c =
       err_text = λ failed. c.report_format.ensures.err_told;
       quiet = λ ended. absurd (refused_ended _ (inl bad) ended);
     }
+
+-- Either way there is no want of memory.
+pub returns-in-Ok-clause-needless : goal.returns-in-Ok-clause-needless
+returns-in-Ok-clause-needless g c memory =
+    let ran = subst (λ (conversion : Conversion). AsTool
+    (Ran g.R.Source.told g.W.Sink.told (converting conversion) [] (c.args.reader.now, c.args.out.now)
+    (c.convert_lines.new.reader, c.convert_lines.new.writer)) c.convert_lines.result) c.conversion.ensures
+    c.convert_lines.ensures in
+    run_unrefused g.R.Source.told g.W.Sink.told _ _ _ _ c.convert_lines.result ran
+    (inr (sym c.ended.ensures.status ∙ memory))
+
+pub returns-in-Err-clause-needless : goal.returns-in-Err-clause-needless
+returns-in-Err-clause-needless g c memory = no_memory_is_not_bad _ memory c.report_format.ensures.status

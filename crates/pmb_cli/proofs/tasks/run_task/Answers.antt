@@ -37,11 +37,11 @@ returns-in-Convert g c =
     subst (λ (t : Task). DidTask g.R.Source.told g.W.Sink.told g.E.Sink.told SAMPLE.now (asking_of t)
     (c.args.reader.now, c.args.out.now, c.args.err.now)
     (c.run_lines.new.reader, c.run_lines.new.out, c.run_lines.new.err) c.run_lines.result)
-    (sym c.in-Convert.is) c.run_lines.ensures
+    (sym c.in-Convert.is) c.run_lines.ensures.did
 
 pub returns-in-Import : goal.returns-in-Import
 returns-in-Import g c =
     subst (λ (t : Task). DidTask g.R.Source.told g.W.Sink.told g.E.Sink.told SAMPLE.now (asking_of t)
     (c.args.reader.now, c.args.out.now, c.args.err.now)
     (c.run_import.new.reader, c.run_import.new.out, c.run_import.new.err) c.run_import.result)
-    (sym c.in-Import.is) c.run_import.ensures
+    (sym c.in-Import.is) c.run_import.ensures.did

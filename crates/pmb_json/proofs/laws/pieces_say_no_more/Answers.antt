@@ -1,9 +1,11 @@
-use Rattle.std.proofs.Common.{inr, List, ◌++◌, ◌∙◌, refl, subst, sym}
+use Rattle.std.proofs.Common.{inr, List, ◌++◌, ap, append_assoc, ◌∙◌, refl, subst, sym}
 use Rattle.pmb_unknown_start.specs.declared.start.Start.TheVariants.{AllKnown}
+use Rattle.pmb_unknown_start.specs.Certain.{DropsOnOwnPage}
 use Rattle.pmb_unknown_start.specs.Past.{PastData, transactions_of}
+use Rattle.pmb_unknown_start.proofs.Drops.{drops_front}
 use Rattle.pmb_note.specs.Paging.{mode as mode_of_whole, paging}
 use Rattle.pmb_json.specs.Pieces.{DropsOnOwnPages, SameTimes}
-use Rattle.pmb_json.proofs.Dropped.{drops_then_said, spans_are}
+use Rattle.pmb_json.proofs.Dropped.{spans_are}
 use Rattle.pmb_json.proofs.NoMore.{IsAfter, stand_after}
 use Rattle.pmb_json.proofs.Pieces.{Agree, StandBeside, spans_said}
 use Rattle.pmb_json.proofs.laws.pieces_say_no_more.Goals as goal
@@ -26,6 +28,8 @@ returns c choice profile place there times theirs before within n spans bus late
     spans_said c.objects_are_of_facts.ensures SameTimes choice profile choice.start AllKnown (IsAfter before)
     (DropsOnOwnPages profile before) stand place there times theirs n spans within (before ++ within)
     (λ at. inr (told at)) refl
-    (spans_are (DropsOnOwnPages profile before) (λ addr device is. tt) place times choice.ignored within
-    (λ ts addr device is. drops_then_said device (paging device (transactions_of before)) within ts
-    (drops addr device is)) spans)
+    (spans_are (DropsOnOwnPages profile before) (λ addr device is. tt) place times choice.ignored within spans
+    (λ p q split addr device is.
+    drops_front device (paging device (transactions_of before)) (within ++ p) q
+    (subst (λ (past : List PastData). DropsOnOwnPage device (paging device (transactions_of before)) past)
+    (ap (λ (past : List PastData). within ++ past) split ∙ sym (append_assoc within p q)) (drops addr device is))))

@@ -1,14 +1,12 @@
 -- Both clauses by `cut`, which is told of the times of the rest what each clause says of them.
-use Rattle.std.proofs.Common.{◌≡◌, ◌≢◌, ℕ, ◌+◌, inl, inr, List, ◌++◌, Option, length, refl, subst, sym, ◌∙◌}
+use Rattle.std.proofs.Common.{◌≡◌, ◌≢◌, ℕ, ◌+◌, inl, inr, List, ◌++◌, length, refl, subst, sym, ◌∙◌}
 use Rattle.pmb_command.specs.Bus.{IsBus}
 use Rattle.pmb_command.specs.Parts.{DeviceParts}
 use Rattle.pmb_facts.specs.Fact.{FactData}
 use Rattle.pmb_unknown_start.specs.declared.start.Start.TheVariants.{AllKnown}
 use Rattle.pmb_unknown_start.specs.Past.{PastData, transactions_of}
-use Rattle.pmb_unknown_start.proofs.Drops.{none_dropped}
-use Rattle.pmb_note.specs.Paging.{mode as mode_of_whole, paging}
+use Rattle.pmb_note.specs.Paging.{mode as mode_of_whole}
 use Rattle.pmb_scan.specs.declared.after_bad_token.AfterBadToken.{AfterBadToken}
-use Rattle.pmb_scan.specs.declared.after_bad_token.AfterBadToken.TheVariants.{End, Continue}
 use Rattle.pmb_json_objects.specs.Counts.{CountsData}
 use Rattle.pmb_fact_stream.specs.Before.{at_first}
 use Rattle.pmb_fact_stream.specs.Choice.{ChoiceData}
@@ -19,22 +17,11 @@ use Rattle.pmb_json.specs.Pieces.{AllDropsOnOwnPages, CanBeCutBehind, DropsOnOwn
 use Rattle.pmb_json.specs.Pieces.{SameTimes, TellsNoMore, Timing, all_known}
 use Rattle.pmb_telling.specs.Text.{BadLine, FactsFrom}
 use Rattle.pmb_json.proofs.Cut.{CutLaws, FirstPiece, cut, firsts_in}
-use Rattle.pmb_json.proofs.Dropped.{ended_text_is}
 use Rattle.pmb_json.proofs.NoMore.{IsAfter, NoMoreIfOk, no_more_across, stand_after}
 use Rattle.pmb_json.proofs.PieceMembers.{Tells}
 use Rattle.pmb_json.proofs.PieceTimes.{as_many_words}
 use Rattle.pmb_json.proofs.Pieces.{Agree, StandBeside}
 use Rattle.pmb_json.proofs.laws.texts_of_pieces_say_no_more.Goals as goal
-
--- Where reading ends at the first bad line, no line before a fact was dropped.
-all_drops : (ignored : Option (List ℕ)) (profile : List DeviceParts) (after : AfterBadToken) (before : List PastData)
-    (back : List ℕ) (bad : List BadLine) (facts : List FactData) (x : CountsData)
-    → FactsFrom ignored profile after at_first back bad facts x
-    → (after ≡ Continue → AllDropsOnOwnPages profile before facts) → AllDropsOnOwnPages profile before facts
-all_drops ignored profile End before back bad facts x rest drops =
-    ended_text_is (DropsOnOwnPages profile before) (λ addr device is. tt) ignored profile
-    (λ ts addr device is. none_dropped device (paging device (transactions_of before)) ts) back bad facts x rest
-all_drops ignored profile Continue before back bad facts x rest drops = drops refl
 
 pub returns : goal.returns
 returns c =
@@ -44,7 +31,7 @@ returns c =
     → ((rest : List ℕ) (k : ℕ) → Tells timing (time_at rest k) (time_at (front ++ rest) (length first.events + k)))
     → FactsFrom choice.ignored profile after at_first back bad facts x
     → FactsFrom choice.ignored profile after at_first (front ++ back) lines whole y
-    → (after ≡ Continue → AllDropsOnOwnPages profile (past_in first.spans) facts)
+    → AllDropsOnOwnPages profile (past_in first.spans) facts
     → (firsts : List FactData) × (others : List FactData) × (whole ≡ firsts ++ others)
     × EachSaysNoMore timing (objects_of choice profile facts) (objects_of (all_known choice) profile others) =
     λ timing choice profile after front back bad lines facts whole x y bus late first tells rest all drops.
@@ -90,7 +77,7 @@ returns c =
       firsts,
       both.others,
       same.0,
-      both.beside (all_drops choice.ignored profile after before back bad facts x rest drops),
+      both.beside drops,
     ) in
     record {
       values = λ choice profile after front back bad lines facts whole x y bus late first rest all drops.

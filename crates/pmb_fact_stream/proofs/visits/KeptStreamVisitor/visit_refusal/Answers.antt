@@ -1,13 +1,20 @@
-use Rattle.std.proofs.Common.{◌≡◌, Option, None, Some, [], ◌++◌, length, ◌+◌, subst, sym, ◌∙◌, refl}
+use Rattle.std.proofs.Common.{◌≡◌, Bool, Option, None, Some, List, [], ◌++◌, length, ◌+◌, subst, sym, ◌∙◌, ap, refl}
+use Rattle.pmb_unknown_start.specs.Past.{PastData}
+use Rattle.pmb_fact_stream.specs.Spans.{dropped_if, past_in}
+use Rattle.pmb_fact_stream.specs.Stream.{stream_profile}
 use Rattle.pmb_io.proofs.Writing.{writes_nothing}
 use Rattle.pmb_reader.specs.Refusal.{refusal_data}
 use Rattle.pmb_transaction.specs.Capture.{Viable}
 use Rattle.pmb_fact_stream.specs.machine.OpenTime.{kept_time}
 use Rattle.pmb_fact_stream.proofs.Fronts.{address_stays, is_no_other_front, is_other_front, other_begins}
-use Rattle.pmb_fact_stream.proofs.Standing.{counts_as, knows_at, times_refusal}
+use Rattle.pmb_fact_stream.proofs.Standing.{counts_as, knows_as, knows_at, times_refusal}
 use Rattle.pmb_fact_stream.proofs.Told.{begins_in, kept_packet, timed_packet}
 use Rattle.pmb_fact_stream.proofs.ToldSpans.{told_begun_refusal, told_other_refusal, told_refusal}
 use Rattle.pmb_fact_stream.proofs.visits.KeptStreamVisitor.visit_refusal.Goals as goal
+
+-- what is lost is what is said of the refused event
+lost_as : (past : List PastData) {loses other : Bool} → loses ≡ other → past ++ dropped_if loses ≡ past ++ dropped_if other
+lost_as past is = ap (λ (l : Bool). past ++ dropped_if l) is
 
 none_of : {A : Type 0} (x y : Option A) → ((a : A) → x ≡ Some a → ⊥) → x ≡ y → y ≡ None
 none_of None y never is = sym is
@@ -25,6 +32,7 @@ returns-clause-visits g c start reached text n front stands spells standing refu
     let packet = kept_packet g.K.Keeper.Keeps stands.begins.0 start old new reached text first n front standing in
     let viable = subst (λ p. Viable p front) first.at.profile refused.under_way.viable in
     let taken = c.take_refused.ensures in
+    let loses = c.loses-loses.ensures stands.begins.0 reached.text n front packet viable in
     let none = is_no_other_front _ front (λ is. c.in_default-front.not-Other (packet.front ∙ is)) in
     let still = address_stays _ front event (begins_in old.stream front event packet.front
     ∙ none_of _ _ c.in_default.not-Some c.begins_other.ensures) ∙ none in
@@ -46,7 +54,8 @@ returns-clause-visits g c start reached text n front stands spells standing refu
             (times_refusal old.stream new reached n front event refusal taken.times
             (taken.time reached.text reached.events has) told.at.times)
             (taken.packet b reached.text (n + length front))
-            (taken.knows _ front knows packet.said) (kept_time kept)
+            (knows_as _ _ new refl refl (lost_as (b.past ++ past_in reached.spans) loses) refl
+            (taken.knows _ front knows packet.said)) (kept_time kept)
             (timed_packet g.K.Keeper.Keeps b start old new reached text told kept n front standing has)
             c.put_refusal.new.keeper puts.text c.word-place.result
             (c.word-place.ensures (b.read ++ reached.text) told.at.knows.places)
@@ -65,6 +74,8 @@ returns-in-Other-clause-visits g c start reached text n front stands spells stan
     let taken = c.pass_over-in-Other.ensures in
     let first = stands.told stands.begins.0 stands.begins.1 in
     let packet = kept_packet g.K.Keeper.Keeps stands.begins.0 start old new reached text first n front standing in
+    let viable = subst (λ p. Viable p front) first.at.profile refused.under_way.viable in
+    let loses = c.loses-loses.ensures stands.begins.0 reached.text n front packet viable in
     let other = is_other_front _ front (sym packet.front ∙ c.in-Other.is) in
     let still = address_stays _ front event (begins_in old.stream front event packet.front
     ∙ none_of _ _ c.in_default.not-Some c.begins_other.ensures) ∙ other.1 in record {
@@ -81,7 +92,8 @@ returns-in-Other-clause-visits g c start reached text n front stands spells stan
             (times_refusal old.stream new reached n front event refusal taken.times
             (taken.time reached.text reached.events has) told.at.times)
             (taken.packet b reached.text (n + length front))
-            (taken.knows _ (knows_at _ old.stream kept told.at.knows));
+            (knows_as _ _ new refl refl (lost_as (b.past ++ past_in reached.spans) loses) refl
+            (taken.knows _ (knows_at _ old.stream kept told.at.knows)));
       };
     }
 
@@ -97,6 +109,8 @@ returns-in-Some-clause-visits g c start reached text n front stands spells stand
     let taken = c.pass_over.ensures in
     let first = stands.told stands.begins.0 stands.begins.1 in
     let packet = kept_packet g.K.Keeper.Keeps stands.begins.0 start old new reached text first n front standing in
+    let viable = subst (λ p. Viable p front) first.at.profile refused.under_way.viable in
+    let loses = c.loses-loses.ensures stands.begins.0 reached.text n front packet viable in
     let other = other_begins _ front event addr
     (begins_in old.stream front event packet.front ∙ sym c.in-Some.ensures) in
     let puts = c.in_ok-put_other.ensures.puts _ (knows_at _ old.stream kept first.at.knows) in record {
@@ -115,8 +129,9 @@ returns-in-Some-clause-visits g c start reached text n front stands spells stand
             (times_refusal old.stream new reached n front event refusal taken.times
             (taken.time reached.text reached.events has) told.at.times)
             (taken.packet b reached.text (n + length front))
+            (knows_as _ _ new refl refl (lost_as (b.past ++ past_in reached.spans) loses) refl
             (taken.knows _ (counts_as _ (record old.stream { time = kept }) c.count_other.new.self addr
-            (c.count_other.ensures _ knows.counts) knows)) (kept_time kept)
+            (c.count_other.ensures _ knows.counts) knows))) (kept_time kept)
             (timed_packet g.K.Keeper.Keeps b start old new reached text told kept n front standing has)
             c.put_other.new.keeper puts.text c.word-place.result
             (c.word-place.ensures (b.read ++ reached.text) told.at.knows.places)

@@ -1,6 +1,6 @@
 use Rattle.std.proofs.Common.{arith, refl}
-use Rattle.pmb_firmware.proofs.Resumed.{resumes_between, resumes_comment}
-use Rattle.pmb_firmware.proofs.Somewhere.{between_somewhere, comment_somewhere}
+use Rattle.pmb_firmware.proofs.Resumed.{resumes_between}
+use Rattle.pmb_firmware.proofs.Somewhere.{between_somewhere}
 use Rattle.pmb_firmware.proofs.lexer.PmbLexer.resumed.Goals as goal
 
 pub returns-in-0-clause-stands : goal.returns-in-0-clause-stands
@@ -9,14 +9,6 @@ returns-in-0-clause-stands c = λ n text events stands. resumes_between c.args.s
 
 pub returns-in-0-clause-somewhere : goal.returns-in-0-clause-somewhere
 returns-in-0-clause-somewhere c = between_somewhere c.args.self.now c.in-0.is (omega arith)
-
-pub returns-in-1-clause-stands : goal.returns-in-1-clause-stands
-returns-in-1-clause-stands c = λ n text events stands.
-    resumes_comment c.args.self.now n text events stands c.in-1.is c.lexer_behind.result c.lexer_behind.ensures
-
-pub returns-in-1-clause-somewhere : goal.returns-in-1-clause-somewhere
-returns-in-1-clause-somewhere c =
-    comment_somewhere c.args.self.now c.in-1.is (omega arith) c.lexer_behind.result
 
 -- after a fault there is none
 pub returns-in_default-clause-faulted : goal.returns-in_default-clause-faulted
