@@ -31,6 +31,8 @@ _INNER = {
         "Truncated",
     ),
 }
+# The words of --fail-on that the sums can say, in the order of `Sums.fails`.
+FAILS = ("refusals", "bad-tokens", "none-read")
 # What sums of values are multiples of, coarse steps first: VID, DIRECT with few digits, LINEAR11
 # and LINEAR16, DIRECT with more of them, half precision.
 _STEPS = (800, 10**3, 1 << 16, 10**6, 1 << 24)
@@ -112,6 +114,12 @@ class Sums:
         packets: int = self.whole.get("packets", 0)
         return packets
 
+    def fails(self, words: List[str]) -> bool:
+        """Whether one of these words of --fail-on holds, of those in `FAILS`."""
+        whole = self.whole
+        holds = bool(whole.get("refusals")), bool(whole.get("bad_tokens")), self.packets() == 0
+        return any(word in words for word, does in zip(FAILS, holds) if does)
+
     @classmethod
     def of(cls, text: str, piece: int = 0) -> "Sums":
         """What `pmb stats --json --digits 12` wrote of a piece."""
@@ -181,7 +189,13 @@ def _add_counts(counts: _Counts, later: _Counts) -> None:
 
 def _take_off(counts: _Counts, front: _Counts) -> None:
     for key, count in front.items():
-        counts[key] -= count
+        if isinstance(count, dict):
+            _take_off(counts[key], count)
+        else:
+            counts[key] -= count
+        # (such a count is left out where it is 0)
+        if key != "packets" and not counts[key]:
+            del counts[key]
 
 
 def _total(mean: Union[int, Decimal], count: int) -> Fraction:

@@ -3,10 +3,11 @@
 All of it is sent to the workers as it is here, so what they are given and what they return is plain
 data, and nothing else of the package is used.
 
-A piece other than the first is read behind a front: packets that tell PAGE, PHASE and VOUT_MODE as
-the capture has told them up to there, and a line with a bad token for each line that was dropped.
-`tells` finds what a piece tells of these, and `reduced` keeps what still counts. What the front
-itself comes to is taken off again by whom the answer goes to. """
+A piece other than the first is read after a front: packets that tell PAGE, PHASE and VOUT_MODE as
+the capture has told them up to there, and a refused packet where something was lost, which is where
+a line was dropped or a packet was refused that may have set them. `tells` finds what a piece tells
+of these, and `reduced` keeps what still counts. What the front itself counts is subtracted again by
+the caller. """
 
 import contextlib
 import errno
@@ -27,7 +28,10 @@ _CHUNK = 1 << 20
 # A line whose last word is `P`, whatever comment follows.
 _ENDS_WITH_STOP = re.compile(rb"(?:[^#\n]*[ \t\r])?P[ \t\r]*(?:#[^\n]*)?\n")
 _COMMENT = re.compile(rb"#[^\n]*")
+_WORD = re.compile(rb"[^ \t\r\n]+")
 _TOKEN = re.compile(rb"[SPAN]|[0-9A-Fa-f]{2}")
+# A blank before a word that is no token, outside of comments.
+_BAD_WORD = re.compile(rb"[ \t\r\n](?!(?:[SPAN]|[0-9A-Fa-f]{2})?(?![^ \t\r\n]))")
 # Where words and blanks are: what is no blank becomes an x.
 _WORDS = bytes(32 if each in b" \t\r\n" else 120 for each in range(256))
 
@@ -35,17 +39,23 @@ _WORDS = bytes(32 if each in b" \t\r\n" else 120 for each in range(256))
 Job = Dict[str, Any]
 Answer = Dict[str, Any]
 # What a packet tells of a device: its address, what (`page`, `phase`, `mode`, or `untold` for a
-# restore), the data, and the transaction's line. A line that was dropped is told of no device.
+# restore), the data, and the transaction's line. That something was lost is told of no device.
 Told = Tuple[str, str, str, str]
-_DROPPED: Told = ("", "dropped", "", "")
-# A line with a word that is no token.
-_BAD_LINE = b"?\n"
+_LOST: Told = ("", "lost", "", "")
+# What is kept of it, and the PAGE that was selected: `None` for that from before, and `_LOST` where
+# it isn't known.
+Kept = Tuple[Optional[Told], Told]
+# A packet that is refused at its second START. The next packet may begin there, so devices may have
+# been told anything in what is passed over, up to the STOP. It names no device.
+_LOSES = b"S S P"
 # What there is where a piece begins: what was told before it, and the numbers of events and lines.
 Start = Tuple[List[Told], int, int]
 
 # The start of a leg of a command that tells something, or that may leave VOUT_MODE untold.
 _TELLS = re.compile(rb"S\s+[0-9A-Fa-f]{2}\s+A\s+(?:00|04|05|12|14|16|18|20)\s+A")
 _RESTORES = ("12", "14", "16", "18")
+# What `check` says of a refusal: how many events come before the refused one, and the reason.
+_REFUSAL = re.compile(rb"# refusal at ([0-9]+): ([A-Za-z]+)")
 
 # ---- where to cut
 
@@ -130,19 +140,6 @@ class _Count:
         words = _COMMENT.sub(b" ", chunk).translate(_WORDS)
         self.events += words.count(b" x") + (words[:1] == b"x" and not self._in_word)
         self._in_word = words[-1:] == b"x"
-
-
-def _events_of_tokens(path: str, begin: int, end: int) -> int:
-    """How many events a piece has where each line ends at its first word that is no token."""
-    count = 0
-    with open(path, "rb") as file:
-        file.seek(begin)
-        while file.tell() < end:
-            for word in _COMMENT.sub(b"", file.readline()).split():
-                if not _TOKEN.fullmatch(word):
-                    break
-                count += 1
-    return count
 
 
 def _chunks(path: str, begin: int, end: int) -> Iterator[bytes]:
@@ -237,61 +234,122 @@ def _naming(path: str) -> Iterator[None]:
 # ---- what a piece tells of PAGE, PHASE and VOUT_MODE
 
 
-def _packets_that_tell(chunks: Iterator[bytes]) -> Iterator[bytes]:
-    """The packets of a piece that have a leg of such a command, and maybe some more."""
-    line = tail = b""
+def _whole_lines(chunks: Iterator[bytes]) -> Iterator[bytes]:
+    """The text in parts of whole lines, and then its last line if that has no end."""
+    line = b""
     for chunk in chunks:
         text = line + chunk
         whole = text.rfind(b"\n") + 1
+        line = text[whole:]
+        yield text[:whole]
+    yield line
+
+
+def _mended(chunks: Iterator[bytes], instead: bytes) -> Iterator[bytes]:
+    """The text without bad tokens: each of them, and the rest of its line, is replaced."""
+    for text in _whole_lines(chunks):
+        if _BAD_WORD.search(b"\n" + _COMMENT.sub(b"", text)):
+            text = b"\n".join(_mended_line(line, instead) for line in text.split(b"\n"))
+        yield text
+
+
+def _mended_line(line: bytes, instead: bytes) -> bytes:
+    words = _WORD.findall(_COMMENT.sub(b"", line))
+    tokens = list(itertools.takewhile(_TOKEN.fullmatch, words))
+    return line if len(tokens) == len(words) else b" ".join([*tokens, instead])
+
+
+def _refusals(said: BinaryIO) -> Iterator[Tuple[int, bytes]]:
+    """The refusals that `check` tells of, each with the number of the refused event and the
+    reason."""
+    for line in said:
+        found = _REFUSAL.match(line)
+        if found is not None:
+            yield int(found.group(1)), found.group(2)
+
+
+def _packets_and_losses(
+    chunks: Iterator[bytes], refusals: Iterator[Tuple[int, bytes]]
+) -> Iterator[bytes]:
+    """Of a text that has such refusals: the packets that may tell something, and `_LOSES` for each
+    refused packet at which something may be lost. No other refused packet is there."""
+    refusal = next(refusals, None)
+    # What is left of the text so far, how many events come before it, and whether it is passed over
+    # up to the next STOP.
+    rest, before, passes = b" ", 0, False
+    for lines in _whole_lines(chunks):
         # (outside of comments, P is always STOP and S is always START)
-        line, text = text[whole:], tail + _COMMENT.sub(b" ", text[:whole])
-        last = text.rfind(b"P") + 1
-        tail = text[last:]
-        stop = 0
-        for found in _TELLS.finditer(text, 0, last):
-            if found.start() >= stop:
-                start = text.rfind(b"P", stop, found.start()) + 1 or stop
-                stop = text.find(b"P", found.end(), last) + 1
-                yield text[start:stop] + b"\n"
+        text = rest + _COMMENT.sub(b" ", lines)
+        words = b"" if refusal is None else text.translate(_WORDS)
+        at, place = 0, 0
+        while place >= 0:
+            if passes:
+                begun, at = at, text.find(b"P", at) + 1
+                passes, at = not at, at or len(text)
+                before += words.count(b" x", begun, at)
+            place = -1
+            if refusal is not None and not passes:
+                place = _place_of_word(words, at, refusal[0] - before)
+            stop = text.rfind(b"P", at, len(text) if place < 0 else place) + 1 or at
+            yield from _packets_that_tell(text, at, stop)
+            if refusal is not None and place >= 0:
+                if _loses(refusal[1], text[stop:place], text[place : place + 1]):
+                    yield _LOSES + b"\n"
+                # (the blank before the refused event)
+                at, before, passes = place - 1, refusal[0], True
+                refusal = next(refusals, None)
+        before += words.count(b" x", at, stop)
+        rest = text[stop:] or b" "
 
 
-def _lines(chunks: Iterator[bytes]) -> Iterator[bytes]:
-    rest = b""
-    for chunk in chunks:
-        *lines, rest = (rest + chunk).split(b"\n")
-        for line in lines:
-            yield line + b"\n"
-    yield rest
+def _place_of_word(words: bytes, at: int, number: int) -> int:
+    """Where a word begins, counted from 0 from a blank on, or -1 if there are not that many."""
+    size = 64
+    while True:
+        count = words.count(b" x", at, at + size)
+        if number < count:
+            break
+        if at + size >= len(words):
+            return -1
+        number, at, size = number - count, at + size - 1, 2 * size
+    while size > 64:
+        size = size // 2 + 1
+        count = words.count(b" x", at, at + size)
+        if number >= count:
+            number, at = number - count, at + size - 1
+    for _ in range(number + 1):
+        at = words.index(b" x", at) + 1
+    return at
 
 
-def _packets_and_drops(chunks: Iterator[bytes]) -> Iterator[bytes]:
-    """The same packets, where reading continues after a word that is no token: then its line is
-    dropped, of which what comes before that word is read, and told by a line with such a word."""
-    lines = _lines(chunks)
-    dropped = True
+def _packets_that_tell(text: bytes, begin: int, end: int) -> Iterator[bytes]:
+    """The packets between two places of a text that have a leg of such a command, and maybe some
+    more. Each ends with STOP."""
+    stop = begin
+    for found in _TELLS.finditer(text, begin, end):
+        if found.start() >= stop:
+            start = text.rfind(b"P", stop, found.start()) + 1 or stop
+            stop = text.index(b"P", found.end(), end) + 1
+            yield text[start:stop] + b"\n"
 
-    def up_to_drop() -> Iterator[bytes]:
-        nonlocal dropped
-        for line in lines:
-            words = _COMMENT.sub(b"", line).split()
-            tokens = list(itertools.takewhile(_TOKEN.fullmatch, words))
-            if len(tokens) < len(words):
-                dropped = True
-                yield b" ".join(tokens) + b"\n"
-                return
-            yield line
 
-    while dropped:
-        dropped = False
-        yield from _packets_that_tell(up_to_drop())
-        if dropped:
-            yield _BAD_LINE
+def _loses(reason: bytes, front: bytes, event: bytes) -> bool:
+    """Whether something may be lost where an event is refused after the front of a packet: that
+    packet, and what is passed over up to the next STOP, may have set PAGE, PHASE or VOUT_MODE.
+
+    Not so if the packet's first address is refused, or is of no device. A leg that is read sets
+    nothing, but a START in it may begin another packet."""
+    leg = front.rpartition(b"S")[2].split()
+    if reason == b"ReadFirst" or reason == b"UnknownDevice" and front.count(b"S") == 1:
+        return False
+    is_read = b"S" in front and leg != [] and int(leg[0], 16) % 2 == 1
+    return event == b"S" or not is_read
 
 
 def _told_by(it: Dict[str, Any]) -> Optional[Told]:
     """What an object of `json` tells of its device, if anything, or of all."""
-    if it["kind"] == "bad_token":
-        return _DROPPED
+    if it["kind"] == "refusal":
+        return _LOST
     if it["kind"] not in ("write", "read"):
         return None
     device, code, data, is_read = it["device"], it["code"], it["bytes"], it["kind"] == "read"
@@ -303,58 +361,100 @@ def _told_by(it: Dict[str, Any]) -> Optional[Told]:
         return device, "phase", data, line
     if code == "20":
         return device, "mode", data[:2], line
-    if not is_read and (code in _RESTORES or code == "05" and data[2:4] == "20"):
+    # (PAGE_PLUS_WRITE sets VOUT_MODE of another page than the selected one, or restores)
+    if not is_read and (data[2:4] in ("20", *_RESTORES) if code == "05" else code in _RESTORES):
         return device, "untold", "", line
     return None
 
 
 def tells(job: Job, path: str, begin: int, end: int) -> Answer:
     """What a piece tells of PAGE, PHASE and VOUT_MODE, reduced, and how many events and lines it
-    has."""
+    has. `check` finds the refusals, and `json` reads only what may tell something."""
     found: List[Told] = []
-    count = _Count()
     keeps_going = "--keep-going" in job["read_words"]
+    sample = [word for word in job["read_words"] if word == "--sample"]
 
-    def use(stdout: BinaryIO) -> None:
+    def text(instead: bytes) -> Iterator[bytes]:
+        # (without --keep-going nothing is read after a bad token)
+        chunks = _chunks(path, begin, end)
+        return _mended(chunks, instead) if keeps_going else chunks
+
+    # At a bad token the packet that was begun is dropped, and something may be lost. So the first
+    # of these ends the packet, and the second is refused even if the first was passed over.
+    drops = _LOSES + b" " + _LOSES
+
+    def use_told(stdout: BinaryIO) -> None:
         most = 10000
         for line in stdout:
             it = _told_by(json.loads(line))
-            # (where reading ends at a word that is no token, nothing comes after it)
-            if it is not None and (keeps_going or it is not _DROPPED):
+            if it is not None:
                 found.append(it)
                 if len(found) > most:
-                    found[:] = reduced(found)
+                    found[:] = reduced(found, job["read_words"])
                     most = max(most, 2 * len(found))
 
-    def given() -> Iterator[bytes]:
-        yield from _front(job, [])
-        chunks = _chunks(path, begin, end)
-        chunks = count.of(chunks) if job["task"] == "json" else chunks
-        yield from _packets_and_drops(chunks) if keeps_going else _packets_that_tell(chunks)
+    def use_refusals(stdout: BinaryIO) -> None:
+        refusals = _refusals(stdout)
+        packets = _packets_and_losses(text(drops), refusals)
+        _ran(["json", *job["read_words"]], itertools.chain(profile, packets), use_told)
+        # (`json` may have ended first, at a bad token)
+        for _ in refusals:
+            pass
 
+    count = _Count()
     with _naming(path):
-        _ran(["json", *job["read_words"]], given(), use)
-        # (of a line with a word that is no token, what comes before that is read)
-        dropped = job["task"] == "json" and keeps_going
-        events = _events_of_tokens(path, begin, end) if dropped else count.events
-    return {"tells": reduced(found), "events": events, "lines": count.lines}
+        profile = _front(job, [])
+        _ran(["check", *sample], itertools.chain(profile, text(drops)), use_refusals)
+        if job["task"] == "json":
+            for _ in count.of(text(b"")):
+                pass
+    told = reduced(found, job["read_words"])
+    return {"tells": told, "events": count.events, "lines": count.lines}
 
 
-def reduced(told: List[Told]) -> List[Told]:
+def reduced(told: List[Told], words: List[str]) -> List[Told]:
     """What has the same effect on PAGE, PHASE and VOUT_MODE of each device, whatever they were
-    before, and is short: each page's last VOUT_MODE, the last restore, PHASE and PAGE. A line that was
-    dropped stays between what was told before it, which is unknown or assumed, and after it."""
-    found: List[Told] = []
-    since: List[Told] = []
+    before, for a program with these words, and is short: each page's last VOUT_MODE, the last
+    restore, PHASE and PAGE, and of what was told before something was lost only what stays."""
+    if _LOST not in told:
+        return _reduced_each(told)
+    last = len(told) - 1 - told[::-1].index(_LOST)
+    before = [it for it in told[:last] if it[1] in ("page", "mode", "lost")]
+    if "--late" not in words:
+        # (PAGE and VOUT_MODE stay; PHASE is unknown)
+        kept = _reduced_each([it for it in before if it != _LOST])
+    elif "--fixed-vout-mode" in words:
+        kept = _modes_that_stay(before)
+    else:
+        kept = []
+    return [*kept, _LOST, *_reduced_each(told[last + 1 :])]
+
+
+def _modes_that_stay(told: List[Told]) -> List[Told]:
+    """What counts for VOUT_MODE of each page, with --fixed-vout-mode: where something was lost,
+    VOUT_MODE stays, and PAGE is unknown."""
+    first: List[Told] = []
+    later: List[Told] = []
+    for device in sorted({it[0] for it in told if it != _LOST}):
+        found = _modes_of_device(told, device)
+        # (where something was lost, PAGE of all devices is unknown, so that comes after all that needs
+        # the PAGE from before)
+        at = found.index(_LOST) if _LOST in found else len(found)
+        first += found[:at]
+        later += found[at:]
+    return first + later
+
+
+def _modes_of_device(told: List[Told], device: str) -> List[Told]:
+    page: Optional[Told] = None
+    kept: List[Kept] = []
     for it in told:
-        if it[1] != "dropped":
-            since.append(it)
-            continue
-        found += _reduced_each(since)
-        since = []
-        if not found or found[-1][1] != "dropped":
-            found.append(it)
-    return found + _reduced_each(since)
+        if it == _LOST or it[:2] == (device, "page"):
+            page = it
+        elif it[0] == device:
+            kept = _without_overwritten(kept, page, it)
+            kept.append((page, it))
+    return _with_pages(kept)
 
 
 def _reduced_each(told: List[Told]) -> List[Told]:
@@ -367,8 +467,7 @@ def _reduced_each(told: List[Told]) -> List[Told]:
 def _reduced(told: List[Told]) -> List[Told]:
     page: Optional[Told] = None
     phase: Optional[Told] = None
-    # (each with the PAGE that was selected, `None` for that from before)
-    kept: List[Tuple[Optional[Told], Told]] = []
+    kept: List[Kept] = []
     for it in told:
         what = it[1]
         if what == "page":
@@ -376,29 +475,43 @@ def _reduced(told: List[Told]) -> List[Told]:
         elif what == "phase":
             phase = it
         else:
-            kept = [old for old in kept if not _is_overwritten(old, page, it)]
-            if page is None and what == "mode":
-                # (a device with one page has the last of these, and one whose page isn't known has
-                # none after two that differ)
-                modes = [old for old in kept if old[1][1] == "mode"]
-                kept = [old for old in kept if old[1][1] != "mode" or old is modes[-1]]
+            kept = _without_overwritten(kept, page, it)
             kept.append((page, it))
-    found: List[Told] = []
-    selected: Optional[Told] = None
-    for at, it in kept:
-        if at is not None and at is not selected:
-            found.append(at)
-            selected = at
-        found.append(it)
+    found = _with_pages(kept)
+    selected = kept[-1][0] if kept else None
     found += [phase] if phase is not None else []
     return found + ([page] if page is not None and page is not selected else [])
 
 
-def _is_overwritten(old: Tuple[Optional[Told], Told], page: Optional[Told], it: Told) -> bool:
+def _with_pages(kept: List[Kept]) -> List[Told]:
+    """What was kept, each after the PAGE that was selected."""
+    found: List[Told] = []
+    selected: Optional[Told] = None
+    for page, it in kept:
+        if page is not None and page is not selected:
+            found.append(page)
+            selected = page
+        found.append(it)
+    return found
+
+
+def _without_overwritten(kept: List[Kept], page: Optional[Told], it: Told) -> List[Kept]:
+    """What of the kept still counts after something was told on a page."""
+    kept = [old for old in kept if not _is_overwritten(old, page, it)]
+    if it[1] == "mode" and page in (None, _LOST):
+        # (a device with one page has the last of these, and one whose page isn't known has none
+        # after two that differ)
+        modes = [old for old in kept if old[0] == page and old[1][1] == "mode"]
+        counts = [old for old in modes if old[1][2] != it[2]][-1:]
+        kept = [old for old in kept if old not in modes or old in counts]
+    return kept
+
+
+def _is_overwritten(old: Kept, page: Optional[Told], it: Told) -> bool:
     """Whether nothing is left of what was told on a page after something else on another one."""
     if it[1] == "untold":
         return old[1][1] == "untold"
-    if page is None:
+    if page is None or page == _LOST:
         return False
     if page[2] == "ff":
         return True
@@ -409,17 +522,18 @@ def _is_overwritten(old: Tuple[Optional[Told], Told], page: Optional[Told], it: 
 
 
 def _front(job: Job, told: List[Told]) -> List[bytes]:
-    """What comes before a piece: the profile, and packets that tell what was told."""
+    """What comes before a piece: the profile, packets that tell what was told, and `_LOSES` where
+    something was lost."""
     profile = [] if job["profile"] is None else [job["profile"] + b"\n%%\n"]
     if not told:
         return profile
-    lines = "".join(line + "\n" for _, what, _, line in told if what != "dropped").encode()
+    lines = "".join(it[3] + "\n" for it in told if it != _LOST).encode()
     words = [word for word in job["read_words"] if word == "--sample"]
     built, status = _ran(["build", *words], iter([*profile, lines]), lambda stdout: stdout.read())
     if status:
         raise ValueError("the profile has no packet for what was told of PAGE, PHASE and VOUT_MODE")
     packets = iter(built.splitlines(True))
-    front = (_BAD_LINE if what == "dropped" else next(packets) for _, what, _, _ in told)
+    front = (_LOSES + b"\n" if it == _LOST else next(packets) for it in told)
     return [*profile, b"".join(front)]
 
 
@@ -445,8 +559,7 @@ def piece(job: Job, path: str, begin: int, end: int, start: Start) -> Answer:
     answer.update(worker=_worker(), version=version(), events=count.events)
     if job["task"] == "json":
         if told:
-            # (a word that is no token is no event)
-            count.add(front[-1].replace(_BAD_LINE, b"\n"))
+            count.add(front[-1])
         objects, counts = _parted(text)
         front_objects, before = _parted(before)
         objects = _moved(objects[len(front_objects) :], events - count.events, lines - count.lines)

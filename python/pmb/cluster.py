@@ -209,7 +209,7 @@ def _in_order(cluster: _Cluster, job: Job, slots: Deque[_Slot], function: Any) -
             slot.future = None
             if slot.answer is not None and "cuts" in slot.answer:
                 total += _split(slots, slot, job["carries"]) - 1
-        telling = [slot for slot in telling if not _has_told(cluster, slot)]
+        telling = [slot for slot in telling if not _has_told(cluster, job, slot)]
         while slots and slots[0].is_done():
             done += 1
             _progress(done, total)
@@ -221,7 +221,7 @@ def _in_order(cluster: _Cluster, job: Job, slots: Deque[_Slot], function: Any) -
     _progress(0, 0)
 
 
-def _has_told(cluster: _Cluster, slot: _Slot) -> bool:
+def _has_told(cluster: _Cluster, job: Job, slot: _Slot) -> bool:
     """Takes over what a piece tells to the next ones, if that is there."""
     if not slot.telling.done():
         return False
@@ -229,18 +229,18 @@ def _has_told(cluster: _Cluster, slot: _Slot) -> bool:
     slot.telling = None
     assert slot.after is not None
     slot.tells, slot.after.error = answer, error
-    _hand_on(slot)
+    _hand_on(job, slot)
     return True
 
 
-def _hand_on(slot: _Slot) -> None:
+def _hand_on(job: Job, slot: _Slot) -> None:
     """What is known before a piece, and what it tells, is known before the next one."""
     here: Optional[_Slot] = slot
     while here is not None and here.start is not None and here.tells is not None:
         told, events, lines = here.start
         tells = here.tells
         if here.after is not None and here.after.start is None:
-            told = _worker.reduced(told + tells["tells"])
+            told = _worker.reduced(told + tells["tells"], job["read_words"])
             here.after.start = told, events + tells["events"], lines + tells["lines"]
         here = here.after
 
@@ -388,6 +388,7 @@ class _Json(_Lines):
     def __init__(self, out: BinaryIO, count: int, keeps_going: bool) -> None:
         super().__init__(out, count)
         self._keeps_going = keeps_going
+        self._status = _DONE
         self._devices: Dict[str, Dict[str, Any]] = {}
         self._whole: Dict[str, Any] = {}
 
@@ -410,6 +411,8 @@ class _Json(_Lines):
         for device in sorted(self._devices):
             self._write(self._devices[device])
         self._write(self._whole)
+        if self._whole["refusals"] or self._whole["bad_tokens"]:
+            self._status = _FOUND
         self._devices, self._whole = {}, {}
 
     def _write(self, it: Dict[str, Any]) -> None:
@@ -421,6 +424,9 @@ class _Json(_Lines):
 
     def unread(self, capture: _Capture) -> None:
         self._devices, self._whole = {}, {}
+
+    def close(self) -> int:
+        return max(self._status, super().close())
 
 
 def _add(sums: Dict[str, Any], it: Dict[str, Any], times: int) -> None:
@@ -501,8 +507,8 @@ class _Stats:
             text = _sums.table(self._all, layout, 4 if digits is None else digits)
         self._out.write(text.encode("ascii"))
         self._out.flush()
-        is_none = "none-read" in self._asked.fail_on and self._all.packets() == 0
-        return max(self._status, _FOUND if is_none else _DONE)
+        fails = self._all.fails(self._asked.fail_on)
+        return max(self._status, _FOUND if fails else _DONE)
 
     def _with_bits(self) -> _sums.Layout:
         """What the profile says, with the bits of the registers that have some."""
@@ -603,6 +609,11 @@ class _Asked(NamedTuple):
     retries: int
     paths: List[str]
 
+    def fails_on_reads(self) -> List[str]:
+        """The words of --fail-on that go to the program, for each piece. The sums say the others,
+        without what the front of a piece counts."""
+        return [word for word in self.fail_on if word not in _sums.FAILS]
+
     def words(self) -> List[str]:
         """The program's words for a capture, without those of numbers."""
         words = ["--sample"] if self.profile is None else []
@@ -614,10 +625,8 @@ class _Asked(NamedTuple):
         """What a worker has to know."""
         more: List[str] = [word for device in self.devices for word in ("--device", device)]
         if self.task == "stats":
-            # (whether no packet was read is known of the whole alone)
-            fail_on = [word for word in self.fail_on if word != "none-read"]
             more += ["--json", "--digits", str(_sums.DIGITS)]
-            more += ["--fail-on", ",".join(fail_on or self.fail_on)] if self.fail_on else []
+            more += ["--fail-on", ",".join(self.fails_on_reads() or ["none-read"])]
         elif self.digits is not None:
             more += ["--digits", str(self.digits)]
         return {
@@ -754,7 +763,7 @@ def _asked(words: Optional[Sequence[str]]) -> _Asked:
         None if it.digits is None else int(it.digits),
         it.device,
         it.json,
-        [] if it.fail_on is None else it.fail_on.split(","),
+        ["refusals", "bad-tokens"] if it.fail_on is None else it.fail_on.split(","),
         it.block if it.block is not None else (4 if it.task == "json" else 64) << 20,
         it.retries,
         it.paths,
@@ -771,7 +780,8 @@ def _read(cluster: _Cluster, asked: _Asked, out: BinaryIO) -> int:
         result = _Json(out, len(asked.paths), asked.keeps_going)
     else:
         result = _Check(out, len(asked.paths))
-    counts = set(asked.fail_on) != {"none-read"}
+    # (of other tasks the counts say it, without what the front of a piece counts)
+    has_status = asked.task == "check" or asked.task == "stats" and asked.fails_on_reads()
     status = _DONE
     capture: Optional[_Capture] = None
     slots = collections.deque(_Slot(path) for path in asked.paths)
@@ -790,7 +800,7 @@ def _read(cluster: _Cluster, asked: _Asked, out: BinaryIO) -> int:
             continue
         answer = slot.answer
         capture.pieces.append((answer["begin"], answer["end"], answer["start"]))
-        status = max(status, answer["status"] if counts else _DONE)
+        status = max(status, answer["status"] if has_status else _DONE)
         if not result.add(capture, answer) and goes_on:
             _drop(slots)
             goes_on = False
