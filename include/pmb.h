@@ -80,8 +80,8 @@ enum pmb_status {
     PMB_BAD_PROFILE = 17,
     /* malloc or realloc had no memory. */
     PMB_NO_MEMORY = 18,
-    /* A field has a number that says nothing there: of pmb_choice `start` or `bad_words`, of
-     * pmb_recorder `names_bus` or `unshifted`. */
+    /* A field has a number that means nothing: `start` or `bad_words` of pmb_choice, `names_bus` or
+     * `unshifted` of pmb_recorder. */
     PMB_BAD_CHOICE = 19,
     /* No event has ended in the text so far. */
     PMB_NO_EVENT = 20,
@@ -99,7 +99,7 @@ enum pmb_status {
     PMB_ENDED = 26,
     /* A transfer is under way on the bus: its last message was not sent. */
     PMB_BUSY = 27,
-    /* pmb_choice has more than 12 digits: `pmb json` refuses that as BadDigits. */
+    /* `digits` of pmb_choice is over 12: `pmb json` refuses that as BadDigits. */
     PMB_BAD_DIGITS = 28,
     /* The address of a wanted device is over 7fh: `pmb json` refuses that as BadAddress. */
     PMB_BAD_DEVICE = 29,
@@ -291,7 +291,8 @@ int32_t pmb_lex_end(pmb_lexer *lexer, pmb_event *event);
  *    of the room, without a NUL, and the rest of the room stays. With a room of 0 bytes only the
  *    length is found.
  *  - The status in `told` is PMB_OK; or PMB_NO_ROOM where the text doesn't fit; or PMB_BAD_PROFILE or
- *    PMB_NO_MEMORY, and then the room stays and the length is 0.
+ *    PMB_NO_MEMORY, and then the room stays and the length is 0. pmb_json and pmb_import have more, with
+ *    which it is so too.
  *  - It takes memory by malloc and realloc: for the profile, pmb_run for its devices too, and up to
  *    400 KB for what it reads and writes (docs/library.md). It frees all of it before it returns. It
  *    uses less than 96 KB of stack. It may not be called from a signal handler.
@@ -375,8 +376,8 @@ typedef struct pmb_choice {
  * those of devices at the given addresses are wanted, and all where no address is given. An address
  * has seven bits: 58h, and not b0h. Packets to an address that the profile ignores have objects, and
  * count neither as packets nor as refusals.
- * Before it reads any of its input, the status is the first of PMB_BAD_CHOICE, PMB_BAD_DIGITS and
- * PMB_BAD_DEVICE that holds, if one does. */
+ * If one of these applies, no input is read, and the status is the first of PMB_BAD_CHOICE,
+ * PMB_BAD_DIGITS and PMB_BAD_DEVICE that does. */
 size_t pmb_json(const char *profile, size_t profile_length, const char *capture,
                 size_t capture_length, const pmb_choice *choice, const uint8_t *devices,
                 size_t devices_length, char *out, size_t room, pmb_result *told);
@@ -407,8 +408,8 @@ typedef struct pmb_recorder {
  * missing. Of the bus only its bytes count, as the recording writes its name; where names_bus is 0
  * they are not read, and the length may be 0. Something is missing where told->refusals is not 0: then
  * `pmb import` has the status 1.
- * Before it reads any of its input, the status is the first of PMB_BAD_SOURCE, PMB_BAD_CHOICE,
- * PMB_BAD_RATE, PMB_SIGROK_ONLY and PMB_NO_BUS that holds, if one does. */
+ * If one of these applies, no input is read, and the status is the first of PMB_BAD_SOURCE,
+ * PMB_BAD_CHOICE, PMB_BAD_RATE, PMB_SIGROK_ONLY and PMB_NO_BUS that does. */
 size_t pmb_import(const pmb_recorder *recorder, const char *bus, size_t bus_length,
                   const char *recording, size_t recording_length, char *out, size_t room,
                   pmb_result *told);
@@ -471,8 +472,8 @@ size_t pmb_profile_build(pmb_profile *profile, const char *lines, size_t lines_l
 size_t pmb_profile_run(pmb_profile *profile, const char *requests, size_t requests_length, char *out,
                        size_t room, pmb_result *told);
 
-/* Writes what pmb_json writes of a capture, in the same way. A choice that is out of range is told before
- * a closed handle. */
+/* Writes what pmb_json writes of a capture, in the same way. A choice or an address that is out of
+ * range is told before a closed handle. */
 size_t pmb_profile_json(pmb_profile *profile, const char *capture, size_t capture_length,
                         const pmb_choice *choice, const uint8_t *devices, size_t devices_length,
                         char *out, size_t room, pmb_result *told);

@@ -4,8 +4,8 @@ All of it is sent to the workers as it is here, so what they are given and what 
 data, and nothing else of the package is used.
 
 A piece other than the first is read after a front: packets that tell PAGE, PHASE and VOUT_MODE as
-the capture has told them up to there, and a refused packet where something was lost, which is where
-a line was dropped or a packet was refused that may have set them. `tells` finds what a piece tells
+the capture has told them up to there, and a refusal where something was lost, which is where a line
+was dropped, or there was a refusal whose packet may have set them. `tells` finds what a piece tells
 of these, and `reduced` keeps what still counts. What the front itself counts is subtracted again by
 the caller. """
 
@@ -272,7 +272,7 @@ def _packets_and_losses(
     chunks: Iterator[bytes], refusals: Iterator[Tuple[int, bytes]]
 ) -> Iterator[bytes]:
     """Of a text that has such refusals: the packets that may tell something, and `_LOSES` for each
-    refused packet at which something may be lost. No other refused packet is there."""
+    refusal at which something may be lost. No other refusal is there."""
     refusal = next(refusals, None)
     # What is left of the text so far, how many events come before it, and whether it is passed over
     # up to the next STOP.
