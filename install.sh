@@ -6,7 +6,8 @@
 #
 #   ./install.sh                  into /usr/local
 #   ./install.sh --firmware       the same, and the libraries for microcontrollers
-#   ./install.sh --uninstall      removes from there all that it would install
+#   ./install.sh --uninstall      removes from there all that it would install, and the folders that
+#                                 are empty then, but for those that a system has anyway
 #
 # Variables, in the environment or as words, such as `./install.sh PREFIX=/opt/pmb`:
 #
@@ -231,12 +232,38 @@ remove_others() {
     done
 }
 
-# Removes the folders that are the library's own, where they are empty.
-remove_folders() {
-    for folder in "$LIBDIR/cmake/pmb" "$LIBDIR/cmake" "$LIBDIR/pkgconfig"; do
-        rmdir "$DESTDIR$folder" 2>/dev/null
+# Whether a folder is one that the system has anyway.
+is_of_system() {
+    case $DESTDIR$PREFIX in
+        '' | /usr | /usr/local) ;;
+        *) return 1 ;;
+    esac
+    case ${1#"$PREFIX"} in
+        '' | /bin | /include | /lib | /lib64 | /share | /share/man) ;;
+        *) return 1 ;;
+    esac
+}
+
+# Removes a folder if it is empty, and then those in which it lies, up to the prefix, and below DESTDIR
+# up to that.
+remove_empty() {
+    folder=$1
+    while [ -n "$folder" ] && ! is_of_system "$folder"; do
+        [ ! -d "$DESTDIR$folder" ] || rmdir "$DESTDIR$folder" 2>/dev/null || return 0
+        case $folder in
+            "$PREFIX"/*) ;;
+            *) [ -n "$DESTDIR" ] || return 0 ;;
+        esac
+        folder=${folder%/*}
     done
-    true
+}
+
+# Removes the folders that have nothing any more.
+remove_folders() {
+    for own in "$LIBDIR/cmake/pmb" "$LIBDIR/pkgconfig" "$MANDIR/man1" "$MANDIR/man3" "$INCLUDEDIR" \
+        "$BINDIR"; do
+        remove_empty "$own"
+    done
 }
 
 # Lets the loader see what came or went, or says what to do. The folders are those where it looks by

@@ -448,12 +448,14 @@ def try_pages():
     device, bus, _ = device_of(0x58, pec=False)
     equal((device.page, bus.events()), (0, "S b0 A 00 A S b1 A 00 N P\n"), "the first page")
     device.page = 0
-    equal(bus.events(), "", "the same page")
+    equal(bus.events(), "S b0 A 00 A 00 A P\n", "a page that is set")
     bus.write_byte_data(0x58, 0, 1)
+    equal(device.page, 0, "the page that was set")
     device.page = None
     equal(device.page, 1, "the page of somebody else")
     equal(raised(setattr, device, "page", 2), REMOTE, "a page that there isn't")
     equal(device.page, 1, "the page after that")
+    equal(raised(setattr, device, "page", "1"), "TypeError", "a text as a page that is set")
     device.write("STATUS_VOUT", b"\xff", page=255)
     equal(device.page, 255, "all pages")
     equal(raised(device.read, "READ_VOUT"), NXIO, "a read of all pages")
@@ -474,7 +476,7 @@ def try_modes():
     with pmb.Bus(board) as bus:
         # 1000h are 1 V by 14h, and 2000h are 4 V by 15h; by the profile they would be 8 V and 32 V
         bus.write_byte_data(0x58, 0, 1)
-        device = pmb.Device(bus, other, 0x58)
+        device = pmb.Device(bus, other, 0x58, exclusive=True)
         bus.events()
         equal(device["READ_VOUT"].value, 4, "a voltage of the page that was selected before")
         lines = ["8b", "00", "20", "8b"]
@@ -502,7 +504,7 @@ def try_modes():
 def try_codes():
     """Packet error codes by the profile."""
     for address, pec, has in ((0x58, None, True), (0x58, False, False), (0x59, None, False)):
-        device, bus, log = device_of(address, pec=pec)
+        device, bus, log = device_of(address, pec=pec, exclusive=True)
         device.write("CLEAR_FAULTS")
         device.read("STATUS_BYTE")
         first = "{:02x}".format(2 * address)
@@ -556,7 +558,7 @@ def try_blocks():
             check(all(line in done for line in said), "the log over {}".format(kind))
     with pmb.Bus(PROFILE) as bus:
         log = io.StringIO()
-        device = pmb.Device(Real(bus), PROFILE, 0x58, log=log, pec=False)
+        device = pmb.Device(Real(bus), PROFILE, 0x58, log=log, pec=False, exclusive=True)
         bus.write_byte_data(0x58, 0, 255)
         equal(raised(device.read, "OPERATION"), NXIO, "a read that is refused")
         equal(log.getvalue(), "# 58 01 failed: No such device or address\n", "the log of it")

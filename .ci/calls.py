@@ -1194,6 +1194,17 @@ def compare_package():
     check(pmb.__version__ == pmb.version(), pmb.__version__)
     for name in ("pyproject.toml", "wheel_of_clone.py"):
         check(f'"{pmb.__version__}"' in read("python", name).decode(), f"the version in {name}")
+    # what pyproject.toml says is in the wheel
+    builder = runpy.run_path(os.path.join(ROOT, "python", "wheel_of_clone.py"))
+    told = [line.partition(": ") for line in builder["METADATA"].splitlines()]
+    project = read("python", "pyproject.toml").decode()
+    for field, key in (("Summary", "description"), ("Requires-Python", "requires-python")):
+        right = re.findall(f'(?m)^{key} = "(.*)"$', project)
+        check([it[2] for it in told if it[0] == field] == right != [], f"{field} in wheel_of_clone.py")
+    for field, key in (("Classifier", "classifiers"), ("Keywords", "keywords")):
+        right = re.findall('"(.*?)"', re.findall(f"(?s){key} = \\[(.*?)\\]", project)[0])
+        found = [part for it in told if it[0] == field for part in it[2].split(",")]
+        check(found == right != [], f"{field} in wheel_of_clone.py")
     # each public name has an example, and all of them are right
     public = [(pmb, name) for name in pmb.__all__ + ["json"]]
     public += [(pmb.Format, name) for name in ("parse", "half", "vid", "direct", "vout")]
@@ -1241,9 +1252,11 @@ def compare_program(program):
 
 
 def compare_page():
-    """The blocks of Python in docs/library.md print what stands in their comments."""
-    blocks = re.findall("(?ms)^```python\n(.*?)^```$", read("docs", "library.md").decode())
-    check(len(blocks) >= 2, f"docs/library.md has {len(blocks)} blocks of Python")
+    """The blocks of Python in docs/library.md, and in the package's README, print what stands in their
+    comments."""
+    pages = read("docs", "library.md").decode(), read("python", "README.md").decode()
+    blocks = [each for page in pages for each in re.findall("(?ms)^```python\n(.*?)^```$", page)]
+    check(len(blocks) >= 3, f"docs/library.md and python/README.md have {len(blocks)} blocks of Python")
     for block in blocks:
         if "Reader" in block and not has_readers():
             continue

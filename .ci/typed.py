@@ -144,7 +144,8 @@ def buses(profile: pmb.Profile, file: IO[str]) -> None:
         bus.read_byte_date(0x58, 3)  # type: ignore[attr-defined]
         print(came, told.packets, bus.funcs + 1, pmb.i2c_msg.read(0x58, 2).len)
     device = pmb.Device(bus, profile, 0x58, pec=True, log=file)
-    pmb.Device(bus, "", 0x58, log=print)
+    pmb.Device(bus, "", 0x58, log=print, exclusive=True)
+    pmb.Device(bus, "", 0x58, exclusiv=True)  # type: ignore[call-arg]
     pmb.Device(file, profile, 0x58)  # type: ignore[arg-type]
     device["VOUT_COMMAND"] = 3.3
     device[0x21] = b"\0\x18"

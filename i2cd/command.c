@@ -7,6 +7,7 @@
 #include <stdio.h>
 #include <stdlib.h>
 #include <string.h>
+#include <sys/prctl.h>
 #include <sys/wait.h>
 #include <unistd.h>
 
@@ -67,6 +68,7 @@ static int set_preload(const char *shim)
 
 pid_t command_start(char *const words[], const char *shim, const char *path, const sigset_t *mask)
 {
+    pid_t server = getpid();
     pid_t process = fork();
     if (process != 0)
         return process > 0 ? process : -errno;
@@ -74,6 +76,10 @@ pid_t command_start(char *const words[], const char *shim, const char *path, con
         perror("pmb-i2cd");
         _exit(126);
     }
+    /* (a server that is killed can't end its command) */
+    prctl(PR_SET_PDEATHSIG, SIGTERM);
+    if (getppid() != server)
+        _exit(128 + SIGTERM);
     sigprocmask(SIG_SETMASK, mask, NULL);
     execvp(words[0], words);
     fprintf(stderr, "pmb-i2cd: %s: %s\n", words[0], strerror(errno));

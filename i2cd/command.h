@@ -17,6 +17,7 @@ int shim_path(const char *given, char *path, size_t room);
 
 /* Starts a command, with the signals of `mask` blocked as they were; LD_PRELOAD has the shim before
  * what it had, and SOCKET_VARIABLE the socket's path. A null shim or path is left out.
+ * It gets SIGTERM where this program is killed.
  * Returns its process, or an errno below 0. The command's own end with 127 says that there is none of
  * that name, and with 126 that it can't be run. */
 pid_t command_start(char *const words[], const char *shim, const char *path, const sigset_t *mask);

@@ -1,6 +1,7 @@
 /* pmb-i2cd.c: the program. It reads the words and the profile, opens what they ask for, and serves in
  * one loop until a signal ends it, or the command of --run has ended. */
 #define _GNU_SOURCE
+#include <dirent.h>
 #include <errno.h>
 #include <fcntl.h>
 #include <limits.h>
@@ -25,6 +26,9 @@
 
 /* How many descriptors are waited for besides those of the socket. */
 #define FIRST_POLLS 3
+
+/* How the name of the directory of a command's socket begins. */
+#define DIRECTORY_NAME "pmb-i2cd."
 
 /* How long nobody is accepted after there was no descriptor or no memory, in milliseconds. */
 #define SHORT_WAIT 100
@@ -95,16 +99,27 @@ static char *read_profile(const char *path, size_t *length)
     return text;
 }
 
+/* Writes what `pmb profile` would say of a profile. Its first line begins with the program's name. */
+static void tell_fault(const char *text, size_t length)
+{
+    static const char other[] = "pmb: ";
+    char told[PMB_MOST_FAULT_TEXT];
+    pmb_result result;
+    size_t written = pmb_profile_fault(text, length, told, sizeof told, &result);
+    size_t end = written < sizeof told ? written : sizeof told;
+    size_t at = end >= sizeof other && memcmp(told, other, sizeof other - 1) == 0 ? sizeof other - 1 : 0;
+    fputs("pmb-i2cd: ", stderr);
+    fwrite(told + at, 1, end - at, stderr);
+}
+
 static void open_adapter(const char *path)
 {
-    char told[PMB_MOST_FAULT_TEXT];
     pmb_result result;
     size_t length;
     char *text = read_profile(path, &length);
     int32_t status = adapter_open(&all.adapter, text, length, &result);
     if (status == PMB_BAD_PROFILE) {
-        size_t written = pmb_profile_fault(text, length, told, sizeof told, &result);
-        fwrite(told, 1, written < sizeof told ? written : sizeof told, stderr);
+        tell_fault(text, length);
         exit(status_of(STATUS_USAGE));
     }
     if (status != PMB_OK) /* (what is opened here can't be closed) */
@@ -119,13 +134,28 @@ static void open_log(const char *path)
         fail(path, -result);
 }
 
+/* Removes the directories that killed servers of the user have left in a folder. */
+static void clear_directories(const char *temporary)
+{
+    DIR *folder = opendir(temporary);
+    for (struct dirent *it; folder && (it = readdir(folder)) != NULL;) {
+        char path[PATH_MAX];
+        if (strncmp(it->d_name, DIRECTORY_NAME, sizeof DIRECTORY_NAME - 1) == 0 &&
+            snprintf(path, sizeof path, "%s/%s", temporary, it->d_name) < (int)sizeof path)
+            server_clear_directory(path);
+    }
+    if (folder)
+        closedir(folder);
+}
+
 /* Makes a directory for the socket of a command. */
 static void make_directory(void)
 {
     const char *temporary = getenv("TMPDIR");
     if (temporary == NULL || *temporary == 0)
         temporary = "/tmp";
-    int length = snprintf(all.directory, sizeof all.directory, "%s/pmb-i2cd.XXXXXX", temporary);
+    clear_directories(temporary);
+    int length = snprintf(all.directory, sizeof all.directory, "%s/" DIRECTORY_NAME "XXXXXX", temporary);
     int is_short = length < (int)sizeof all.directory;
     if (!is_short || mkdtemp(all.directory) == NULL) {
         all.directory[0] = 0;
@@ -150,7 +180,8 @@ static void open_socket(const char *path, int is_for_command)
     static char own[PATH_MAX];
     if (path == NULL) {
         make_directory();
-        snprintf(own, sizeof own, "%.*s/socket", (int)sizeof own - 8, all.directory);
+        snprintf(own, sizeof own, "%.*s/" SOCKET_NAME, (int)(sizeof own - sizeof SOCKET_NAME - 1),
+                 all.directory);
         path = own;
     }
     find_socket(path);

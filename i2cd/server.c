@@ -9,12 +9,14 @@
 #include <errno.h>
 #include <fcntl.h>
 #include <stdint.h>
+#include <stdio.h>
 #include <string.h>
 #include <sys/file.h>
 #include <sys/resource.h>
 #include <sys/socket.h>
 #include <sys/stat.h>
 #include <sys/uio.h>
+#include <time.h>
 #include <unistd.h>
 
 #include "request.h"
@@ -23,6 +25,9 @@
 /* How often the folder's lock is asked for, and the time in between, in milliseconds. */
 #define LOCK_TRIES 200
 #define LOCK_WAIT 10
+
+/* How old a directory without a socket is that its server must have left, in seconds. */
+#define NEW_SECONDS 60
 
 /* Descriptors that the server needs besides those of connections, with some to spare. */
 #define OTHER_DESCRIPTORS 16
@@ -116,6 +121,26 @@ int server_open(struct server *server, struct adapter *adapter, const char *path
     server->device = made.st_dev;
     server->inode = made.st_ino;
     return 0;
+}
+
+void server_clear_directory(const char *path)
+{
+    struct sockaddr_un name = { .sun_family = AF_UNIX };
+    struct stat found;
+    int length = snprintf(name.sun_path, sizeof name.sun_path, "%s/" SOCKET_NAME, path);
+    if (length >= (int)sizeof name.sun_path || lstat(path, &found) != 0 || !S_ISDIR(found.st_mode) ||
+        found.st_uid != geteuid())
+        return;
+    /* (a server that begins has this lock until it listens) */
+    int lock = lock_folder(&name);
+    if (lock < 0)
+        return;
+    int is_new = found.st_mtime + NEW_SECONDS > time(NULL);
+    if (is_left_over(&name))
+        is_new = unlink(name.sun_path) != 0;
+    if (!is_new)
+        rmdir(path);
+    close(lock);
 }
 
 void server_close(struct server *server)

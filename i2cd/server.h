@@ -34,6 +34,13 @@ struct server {
  * socket; ENAMETOOLONG. */
 int server_open(struct server *server, struct adapter *adapter, const char *path);
 
+/* The name of a socket in a directory of its own. */
+#define SOCKET_NAME "socket"
+
+/* Removes a directory of the user's that has nothing but such a socket at which nobody listens any more,
+ * as where its server was killed. One without a socket may be new, and stays for a minute. */
+void server_clear_directory(const char *path);
+
 /* Ends all connections, and removes the socket. */
 void server_close(struct server *server);
 

@@ -57,8 +57,11 @@ struct words read_words(int count, char **given)
         { "help", no_argument, NULL, 'h' },
         { NULL, 0, NULL, 0 },
     };
+    static char name[] = "pmb-i2cd";
     struct words words = { 0 };
     int option;
+    /* (with which getopt_long begins what it says) */
+    given[0] = name;
     /* (it decides over the status of what is wrong before it too) */
     for (int i = 1; i < count && strcmp(given[i], "--") != 0; i++)
         is_run |= strcmp(given[i], "--run") == 0;

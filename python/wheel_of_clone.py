@@ -1,4 +1,5 @@
-"""Builds the wheel of a clone: the package, and in it the released library and program.
+"""Builds the wheel of a clone: the package, and in it the released library and program. Also a source
+archive, from which the wheel can be built elsewhere, and what `pip install -e ./python` asks for.
 
 It needs nothing but Python, so `pip install ./python` fetches nothing. The wheel is one for the
 processor of this machine, or for the one that `pip wheel -C processor=aarch64 ./python` names.
@@ -6,27 +7,44 @@ processor of this machine, or for the one that `pip wheel -C processor=aarch64 .
 
 import base64
 import hashlib
+import io
 import os
 import platform
 import stat
 import sys
+import tarfile
 import zipfile
 
 HERE = os.path.dirname(os.path.abspath(__file__))
-# The released files for each processor.
-RELEASES = {
-    "x86_64": os.path.join(HERE, os.pardir, "release"),
-    "aarch64": os.path.join(HERE, os.pardir, "release", "aarch64"),
-}
+# The released files: those of a clone, or those in an archive of sources.
+RELEASE = os.path.join(HERE, os.pardir, "release")
+ARCHIVED = os.path.join(HERE, "release")
+# Their folder for each processor.
+FOLDERS = {"x86_64": "", "aarch64": "aarch64"}
 VERSION = "0.1.0"
-INFO = "pmb-{}.dist-info".format(VERSION)
+NAME = "pmb-{}".format(VERSION)
+INFO = NAME + ".dist-info"
+# (`.ci/calls.py` compares it with pyproject.toml)
 METADATA = """Metadata-Version: 2.1
 Name: pmb
 Version: {}
 Summary: The proved PMBus codec: numbers, packets, captures and simulated devices
+Keywords: pmbus,smbus,i2c,power,codec,simulation
+Classifier: Development Status :: 4 - Beta
+Classifier: Intended Audience :: Developers
+Classifier: Intended Audience :: Manufacturing
+Classifier: Operating System :: POSIX :: Linux
+Classifier: Programming Language :: Python :: 3
+Classifier: Programming Language :: Python :: 3 :: Only
+Classifier: Topic :: Software Development :: Embedded Systems
+Classifier: Topic :: Software Development :: Testing
+Classifier: Topic :: System :: Hardware
+Classifier: Typing :: Typed
 Requires-Python: >=3.8
 Provides-Extra: cluster
 Requires-Dist: distributed; extra == "cluster"
+Description-Content-Type: text/markdown
+
 """.format(VERSION)
 # What the library needs is in glibc 2.17 and in musl.
 SYSTEMS = ("manylinux_2_17_{}", "manylinux2014_{}", "musllinux_1_1_{}")
@@ -41,53 +59,116 @@ def read(path):
         return file.read()
 
 
+def metadata():
+    return METADATA.encode() + read(os.path.join(HERE, "README.md"))
+
+
+def released(processor):
+    """The folder of the released files for a processor."""
+    release = ARCHIVED if os.path.isdir(ARCHIVED) else RELEASE
+    return os.path.join(release, FOLDERS[processor])
+
+
 def processor_of(config_settings):
     """The processor that the wheel is for. Where there is no library for it, pip shows the sentence."""
     found = (config_settings or {}).get("processor", platform.machine())
     bits = 64 if sys.maxsize > 2 ** 32 else 32
-    if found not in RELEASES or sys.platform != "linux" or bits != 64:
+    if found not in FOLDERS or sys.platform != "linux" or bits != 64:
         sys.exit(
             "pmb is there for 64-bit Python on Linux, for the processors {}, and this is {}-bit"
-            " Python on {}, for {}".format(" and ".join(RELEASES), bits, sys.platform, found)
+            " Python on {}, for {}".format(" and ".join(FOLDERS), bits, sys.platform, found)
         )
     return found
 
 
-def files(release, systems):
-    """Each file of the wheel but the last: its name, its mode and its bytes."""
+# ---- what is in each
+
+
+def modules():
+    """The files of the package: their names, and their bytes."""
     package = os.path.join(HERE, "pmb")
     for name in sorted(os.listdir(package)):
         if name.endswith((".py", ".typed")):
-            yield "pmb/" + name, 0o644, read(os.path.join(package, name))
+            yield "pmb/" + name, read(os.path.join(package, name))
+
+
+def files(processor):
+    """Each file of a wheel but those of its own: its name, its mode and its bytes."""
+    release = released(processor)
+    for name, content in modules():
+        yield name, 0o644, content
     yield "pmb/libpmb.so", 0o755, read(os.path.join(release, "libpmb.so"))
     # (python3 -m pmb starts it)
     yield "pmb/pmb", 0o755, read(os.path.join(release, "pmb"))
-    yield INFO + "/METADATA", 0o644, METADATA.encode()
-    tags = "".join("Tag: py3-none-{}\n".format(system) for system in systems)
-    yield INFO + "/WHEEL", 0o644, (WHEEL + tags).encode()
+
+
+def sources():
+    """Each file of an archive of sources."""
+    yield "PKG-INFO", 0o644, metadata()
+    for name in ("README.md", "pyproject.toml", "wheel_of_clone.py"):
+        yield name, 0o644, read(os.path.join(HERE, name))
+    for name, content in modules():
+        yield name, 0o644, content
+    for processor, folder in FOLDERS.items():
+        for name in ("libpmb.so", "pmb"):
+            path = os.path.join("release", folder, name)
+            yield path, 0o755, read(os.path.join(released(processor), name))
+
+
+# ---- archives
 
 
 def entry(path, mode):
-    """What the archive says of a file. (1980 is as early as an archive can tell.)"""
+    """What a wheel says of a file. (1980 is as early as it can tell.)"""
     found = zipfile.ZipInfo(path, (1980, 1, 1, 0, 0, 0))
     found.external_attr = (stat.S_IFREG | mode) << 16
     found.compress_type = zipfile.ZIP_DEFLATED
     return found
 
 
-def build_wheel(wheel_directory, config_settings=None, metadata_directory=None):
-    processor = processor_of(config_settings)
-    systems = [system.format(processor) for system in SYSTEMS]
-    name = "pmb-{}-py3-none-{}.whl".format(VERSION, ".".join(systems))
+def write_wheel(directory, tags, content):
+    """Writes a wheel of files, and returns its name."""
+    name = "{}-py3-none-{}.whl".format(NAME, ".".join(tags))
+    lines = "".join("Tag: py3-none-{}\n".format(tag) for tag in tags)
+    own = [
+        (INFO + "/METADATA", 0o644, metadata()),
+        (INFO + "/WHEEL", 0o644, (WHEEL + lines).encode()),
+    ]
     record = ""
-    with zipfile.ZipFile(os.path.join(wheel_directory, name), "w") as wheel:
-        for path, mode, content in files(RELEASES[processor], systems):
-            wheel.writestr(entry(path, mode), content)
-            digest = base64.urlsafe_b64encode(hashlib.sha256(content).digest()).rstrip(b"=")
-            record += "{},sha256={},{}\n".format(path, digest.decode(), len(content))
+    with zipfile.ZipFile(os.path.join(directory, name), "w") as wheel:
+        for path, mode, data in [*content, *own]:
+            wheel.writestr(entry(path, mode), data)
+            digest = base64.urlsafe_b64encode(hashlib.sha256(data).digest()).rstrip(b"=")
+            record += "{},sha256={},{}\n".format(path, digest.decode(), len(data))
         wheel.writestr(entry(INFO + "/RECORD", 0o644), record + INFO + "/RECORD,,\n")
     return name
 
 
+# ---- what pip calls
+
+
+def build_wheel(wheel_directory, config_settings=None, metadata_directory=None):
+    processor = processor_of(config_settings)
+    tags = [system.format(processor) for system in SYSTEMS]
+    return write_wheel(wheel_directory, tags, files(processor))
+
+
+def build_editable(wheel_directory, config_settings=None, metadata_directory=None):
+    """A wheel that names this folder: the package is used where it lies, with the clone's library."""
+    processor = processor_of(config_settings)
+    if not os.path.isdir(RELEASE) or os.path.isdir(ARCHIVED):
+        sys.exit("pmb is used where it lies in a clone alone: here, install it without -e")
+    path = [("pmb_of_clone.pth", 0o644, (HERE + "\n").encode())]
+    return write_wheel(wheel_directory, ["linux_" + processor], path)
+
+
 def build_sdist(sdist_directory, config_settings=None):
-    raise NotImplementedError("the wheel is built in a clone: pip install ./python")
+    """An archive of what makes the wheel. The library and the program are in it as they were released:
+    to build these takes a clone, and the toolchain."""
+    name = NAME + ".tar.gz"
+    with tarfile.open(os.path.join(sdist_directory, name), "w:gz", format=tarfile.PAX_FORMAT) as archive:
+        for path, mode, data in sources():
+            found = tarfile.TarInfo(NAME + "/" + path)
+            found.size, found.mode = len(data), mode
+            archive.addfile(found, io.BytesIO(data))
+    return name

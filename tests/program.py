@@ -19,7 +19,7 @@ def compiled(folder, who):
     """The shim again.c, or None where there is no C compiler, or another C library than glibc."""
     compiler = shutil.which("cc") or shutil.which("gcc") or shutil.which("clang")
     if compiler is None:
-        print("%s: there is no C compiler" % who)
+        print("%s: cc is missing, so the ways of each row were not tried" % who)
         return None
     shim = os.path.join(folder, "again.so")
     source = Path(__file__).resolve().parent / "again.c"
@@ -27,7 +27,7 @@ def compiled(folder, who):
     try:
         ctypes.CDLL(shim)
     except OSError as fault:
-        print("%s: again.c doesn't load here: %s" % (who, fault))
+        print("%s: again.c doesn't load here (%s), so the ways of each row were not tried" % (who, fault))
         return None
     return shim
 

@@ -343,7 +343,9 @@ def main():
     path = str(Path(chosen.program).resolve())
     files = chosen.files or sorted((ROOT / "tests/rows").glob("*.txt"))
     values = {"standard_commands": b"%d" % standard_commands()}
-    rows = [row for file in files for row in rows_of(file, values)]
+    by_file = [(file, rows_of(file, values)) for file in files]
+    rows = [row for _, some in by_file for row in some]
+    empty = [file for file, some in by_file if not some]
     rows += [row for row in map(as_check, rows) if row]
     rows.sort(key=lambda row: row.stages)
     began = time.monotonic()
@@ -351,7 +353,7 @@ def main():
     with tempfile.TemporaryDirectory() as folder:
         shim = compiled(folder, "rows")
         if shim is None:
-            print("rows: so each is run whole alone")
+            print("rows: each is run whole alone")
         most = DRAWN_OF_ALL if chosen.all else DRAWN
         shares = [(path, shim, most, rows[i:i + 40]) for i in range(0, len(rows), 40)]
         with ProcessPoolExecutor(workers) as pool:
@@ -361,13 +363,14 @@ def main():
         skipped += some_skipped
         runs += some_runs
         failures += some_failures
+    failures = ["%s has no row" % file for file in empty] + failures
     for failure in failures[:SHOWN]:
         print("rows: " + failure)
     print("rows: %d runs in %.0f seconds" % (runs, time.monotonic() - began))
-    passed = len(rows) - skipped - len(failures)
+    passed = len(rows) - skipped - len(failures) + len(empty)
     print("rows: %d passed, %d failed%s" % (passed, len(failures),
                                             ", %d skipped" % skipped if skipped else ""))
-    return 1 if failures else 0
+    return 1 if failures or not rows else 0
 
 
 if __name__ == "__main__":

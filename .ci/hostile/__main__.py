@@ -42,13 +42,13 @@ def compiled_shim(folder):
     shim = os.path.join(folder, "failing.so")
     compiler = shutil.which("cc") or shutil.which("gcc")
     if compiler is None:
-        print("hostile: there is no C compiler (cc), so nothing was tried")
+        print("hostile: cc is missing, so want of memory and failing streams were not tried")
         return None
     subprocess.run([compiler, "-O1", "-shared", "-fPIC", "-o", shim, source], check=True)
     try:
         ctypes.CDLL(shim)
     except OSError as fault:
-        print(f"hostile: .ci/failing.c doesn't load here, so nothing was tried: {fault}")
+        print(f"hostile: .ci/failing.c doesn't load here ({fault}), so failures were not tried")
         return None
     return shim
 

@@ -73,7 +73,8 @@ def output_that_cannot_be_written(program, report):
 
 def closed_pipe(program, report):
     """`| head -n 1`: the pipe is closed once it has given something, and is far too small for the
-    rest. No signal ends the program. What `stats` writes is too little for that."""
+    rest. No signal ends the program, and no line says what whoever closed it knows. What `stats` writes
+    is too little for that."""
     inputs = [(["profile"], all_commands(LIMIT).encode())]
     for words, rows in UNDER_SAMPLE + CONVERSIONS + IMPORTS:
         if words[0] == "stats":
@@ -89,7 +90,7 @@ def closed_pipe(program, report):
         os.close(receiver)
         status, _, _ = program.ended(process)
         report.holds(begun != b"", name_of(words) + " | head", "some output", begun)
-        report.same(name_of(words) + " | head", (3, WRITE_FAILED), (status, contents(err)))
+        report.same(name_of(words) + " | head", (3, b""), (status, contents(err)))
         os.close(err)
 
 

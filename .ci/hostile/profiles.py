@@ -379,7 +379,7 @@ def changed_profiles(program, report):
     rng = random.Random(SEED)
     tried = taken = 0
     if tomllib is None:
-        print("hostile: this Python has no tomllib (3.11 has), so no profile is read beside it")
+        print("hostile: Python 3.11 with its tomllib is missing, so profiles beside it were not tried")
         report.skipped += 1
     for text in program.some(changed(rng, SAMPLE)):
         answer = program.run_once(["profile"], text)

@@ -38,6 +38,7 @@ class Sheet:
         self.chance, self.lines, self.spans, self.wanted = chance, [], [], []
         self.noise = []  # makers of lines that say nothing or are passed over
         self.passed, self.packets, self.is_bad = {}, 0, False
+        self.codes = 0  # error codes that the recording does not show
 
     def put(self, line):
         """A line, with noise in front of it; its number."""
@@ -66,6 +67,9 @@ class Sheet:
                               % (self.passed[what], what.encode()))
         if not self.packets:
             wanted.append(b"# no packets")
+        if self.codes:
+            wanted.append(b"# %d error codes are computed, since the recording shows none"
+                          % self.codes)
         status = 1 if self.is_bad or not self.packets else 0
         capture = b"".join(line + b"\n" for line in wanted)
         front = BOM if self.chance.random() < 0.1 else b""
@@ -105,9 +109,26 @@ def packet_of(some_legs):
 
 # sigrok
 
+# What the decoder says of its classes, where that is more than their names.
+DESCRIBED = {b"start": b"Start condition", b"repeat-start": b"Repeat start condition",
+             b"stop": b"Stop condition", b"bit": b"Data/address bit", b"ack": b"ACK",
+             b"nack": b"NACK"}
+
+
+def label_of(kind, labels):
+    """What PulseView writes before an annotation."""
+    if labels == "name":
+        return kind
+    if labels == "description":
+        return DESCRIBED.get(kind, kind.replace(b"-", b" ").capitalize())
+    row = b"Bits" if kind == b"bit" else b"Address/Data"
+    return row.capitalize() if labels == "newer row" else row
+
+
 def sigrok(chance):
     sheet = Sheet(chance)
     form = chance.choice(("plain", "plain", "quoted", "full", "pulseview"))
+    labels = chance.choice(("row", "newer row", "name", "description"))
     has_samples = form == "pulseview" or chance.random() < 0.7
     name = "I²C".encode() if form == "pulseview" else b"i2c-1"
     bits, words = chance.choice(("none", "none", "before", "behind")), chance.choice(
@@ -129,7 +150,7 @@ def sigrok(chance):
         if form == "full":
             return front + kind + b': "' + b'" "'.join((text,) + others) + b'"'
         if form == "pulseview":
-            return front + (b"Bits: " if kind == b"bit" else b"Address/Data: ") + text
+            return front + label_of(kind, labels) + b": " + text
         return front + text
 
     def noise():
@@ -223,20 +244,32 @@ def saleae(chance, plain=False):
     def number(byte):
         return b"%d" % byte if is_decimal else b"0x" + hexadecimal(chance, byte)
 
+    sign = b"" if plain else chance.choice((b"", b"", b"-"))
+    form = "" if plain else chance.choice(("", "", "nanoseconds", "microseconds"))
+    zone = chance.choice((b"", b"Z", b"+02:00", b"-0800"))
+
     def time():
+        """As the table has it, and as it is told."""
         clock[0] += chance.randrange(1, 2000)
         seconds, rest = divmod(clock[0], 10**9)
         if is_dated:
-            return b"2026-05-17T10:34:%02d.%09dZ" % (seconds % 60, rest)
-        return b"%d.%09d" % (seconds, rest)
+            date = b"2026-05-17T10:34:%02d.%09d" % (seconds % 60, rest) + zone
+            return date, date
+        told = sign + b"%d.%09d" % (seconds, rest)
+        if form == "nanoseconds":
+            return sign + b"%de-09" % clock[0], told
+        if form == "microseconds":
+            return sign + b"%d.%03dE-6" % divmod(clock[0], 1000), told
+        return told, told
 
     def line(kind, **values):
-        known = {b"name": name, b"type": kind, b"start_time": time(), b"duration": b"1e-06"}
+        text, told = time()
+        known = {b"name": name, b"type": kind, b"start_time": text, b"duration": b"1e-06"}
         known.update((key.encode(), value) for key, value in values.items())
         if plain:
             known[b"name"], known[b"type"] = b'"' + name + b'"', b'"' + kind + b'"'
-            return b",".join(known.get(column, b"") for column in columns), known[b"start_time"]
-        return row(chance, columns, known, often), known[b"start_time"]
+            return b",".join(known.get(column, b"") for column in columns), told
+        return row(chance, columns, known, often), told
 
     def noise():
         if chance.random() < 0.3:
@@ -325,7 +358,7 @@ class Tracer:
 
     def __init__(self, chance, bus):
         self.chance, self.bus = chance, bus
-        self.form = chance.choice(("trace", "trace-cmd", "perf", "bare"))
+        self.form = chance.choice(("trace", "trace-cmd", "perf", "bare", "graph"))
         self.clock = chance.randrange(10**9)
 
     def line(self, name, text, bus=None):
@@ -336,6 +369,9 @@ class Tracer:
         text = (bus or self.bus) + b" " + text
         if self.form == "bare":
             return name + b" " + text, None
+        if self.form == "graph":
+            front = b"%9s |  " % at if self.chance.random() < 0.3 else b""
+            return front + b" 1)               |  /* " + name + b" " + text + b" */", None
         if self.form == "trace":
             front = b"%16s-%-7d [000] .n... %12s: " % (b"poll", 91, at)
             return front + name + b" " + text, b"# " + at + b" s"
@@ -345,7 +381,14 @@ class Tracer:
         front = b"%16s-%-5d [000] %12s: " % (b"poll", 91, at)
         return front + b"%-22s" % name + text, b"# " + at + b" s"
 
+    def result(self, number):
+        """A result: trace-cmd and perf print sixteen bits without a sign."""
+        is_unsigned = number < 0 and self.form in ("trace-cmd", "perf")
+        return b"%d" % (number + 65536 if is_unsigned else number)
+
     def heading(self, sheet):
+        if self.form == "graph":
+            sheet.put(b"# tracer: function_graph")
         if self.form == "trace":
             sheet.put(b"# tracer: nop")
             sheet.put(b"# entries-in-buffer/entries-written: 25/25   #P:1")
@@ -358,7 +401,9 @@ class Tracer:
 
         def nothing():
             switch = b"  poll-91 [000] 1.0: sched_switch: prev_comm=poll"
-            return None, self.chance.choice((b"", b"# a comment", switch, b"CPU:0 [LOST x EVENTS]"))
+            call = b" 0)   1.250 us    |      i2c_adapter_depth();"
+            lost = b"CPU:0 [LOST x EVENTS]"
+            return None, self.chance.choice((b"", b"# a comment", switch, call, lost))
 
         def other_kind():
             text = self.chance.choice((b"rubbish", b"a=058 f=0000 c=88 WORD_DATA", b"n=1 ret=1"))
@@ -429,7 +474,7 @@ def kernel(chance):
                 text = b"#%d a=%03x f=%04x l=%d [%b]" % (
                     number, address, flags, len(some), digits_of(some))
                 own.append(sheet.put(tracer.line(b"i2c_reply", text)[0]))
-        line, _ = tracer.line(b"i2c_result", b"n=%d ret=%d" % (count, returned))
+        line, _ = tracer.line(b"i2c_result", b"n=%d ret=%b" % (count, tracer.result(returned)))
         own.append(sheet.put(line))
         some_legs = [message[:3] for message in messages]
         if returned == count:
@@ -513,7 +558,8 @@ def smbus(chance):
         has_reply = reads and (res >= 0 or chance.random() < 0.3)
         if has_reply:
             event(b"reply", masked, shown(replied))
-        event(b"result", masked, b" %b res=%d" % (b"rd" if reads else b"wr", res))
+        result = b"rd" if reads else b"wr", tracer.result(res)
+        event(b"result", masked, b" %b res=%b" % result)
         needed = [some for some in (written, replied if has_reply else []) if some]
         if protocol == b"I2C_BLOCK_DATA":
             needed = [some for some in needed if len(some) > 1]
@@ -532,6 +578,7 @@ def smbus(chance):
                 wire = [byte for leg_reads, some in some_legs
                         for byte in [2 * address + leg_reads] + some]
                 some_legs[-1] = some_legs[-1][0], some_legs[-1][1] + [remainder(wire)]
+                sheet.codes += 1
             packet = words_of([(leg_reads, address, some) for leg_reads, some in some_legs])
         sheet.end_transfer(own, begun, packet)
     return sheet.recording("smbus", options, tracer.bus)
@@ -586,6 +633,26 @@ def lines_cut(chance, lines, spans):
     return found, min(cut) - 1, cut
 
 
+def fronts_gone(chance, lines, spans):
+    """Some lines lack their front."""
+    own = [number for span in spans for number in span.own]
+    cut = set(chance.sample(own, min(len(own), chance.choice((1, 1, 2, 3)))))
+    found = list(lines)
+    for number in cut:
+        found[number - 1] = lines[number - 1][chance.randrange(1, len(lines[number - 1])):]
+    return found, min(cut) - 1, cut
+
+
+def records_spoiled(chance, lines, spans):
+    """Some rows of Beagle are of no record that is known. Where STOP stands is as it was."""
+    own = [number for span in spans for number in span.own]
+    spoiled = set(chance.sample(own, min(len(own), chance.choice((1, 1, 2, 3, 5)))))
+    found = list(lines)
+    for number in spoiled:
+        found[number - 1] = lines[number - 1].replace(b"Transaction", b"Transactio")
+    return found, min(spoiled) - 1, spoiled
+
+
 def end_gone(chance, lines, spans):
     count = chance.randrange(len(lines))
     return lines[:count], count, set(range(count + 1, len(lines) + 1))
@@ -627,7 +694,8 @@ JUDGED = [
     ("kernel", kernel, events_lost), ("smbus", smbus, one_line_gone),
     ("smbus", smbus, lines_of_a_transfer_gone), ("smbus", smbus, events_lost),
     ("sigrok", sigrok, one_line_gone), ("beagle", beagle, rows_gone),
-    ("saleae", plain_saleae, lines_cut),
+    ("beagle", beagle, records_spoiled), ("saleae", plain_saleae, lines_cut),
+    ("saleae", plain_saleae, fronts_gone),
 ]
 # Others: what comes before them is as it was.
 OTHERS = [one_line_gone, one_line_twice, two_lines_swapped, one_byte_changed, rubbish_put_in,

@@ -403,7 +403,7 @@ def read_span(objects, profile, span, ends, where):
             objects.packet(outcome.starts, outcome.transaction, where)
         elif address is None:
             objects.refusal(outcome, where(outcome.at))
-        if not is_packet and outcome.loses():
+        if not is_packet and outcome.loses(profile, span.events[outcome.at - span.first:]):
             forget(objects)
 
 

@@ -171,14 +171,24 @@ class Refusal(NamedTuple):
     got: object
     legs: list
 
-    def loses(self):
-        """Whether devices may have been told what nobody knows: in the packet, or in those that are passed
-        over with it. Not so where the packet is to no device, nor in a leg that is read, unless a START
-        comes there."""
-        if self.reason == "ReadFirst" or self.reason == "UnknownDevice" and len(self.legs) == 1:
-            return False
-        is_read = bool(self.legs and self.legs[-1]) and self.legs[-1][0] % 2 == 1
-        return self.got == START or not is_read
+    def loses(self, profile, passed):
+        """Whether devices may have been told what nobody knows: some leg is a write to a device, in the
+        packet or in what is passed over, the refused event first. Where a reply is read, the leg before
+        it only says what is to be read."""
+        is_reply = bool(self.legs and self.legs[-1]) and self.legs[-1][0] % 2 == 1
+        legs = legs_with([] if is_reply else self.legs, passed)
+        return any(leg and leg[0] % 2 == 0 and profile.device(leg[0] // 2) for leg in legs)
+
+
+def legs_with(legs, events):
+    """The bytes from each START, with more events. Bytes before the first START are in none."""
+    legs = [list(one_leg) for one_leg in legs]
+    for event in events:
+        if event == START:
+            legs.append([])
+        elif is_byte(event) and legs:
+            legs[-1].append(event)
+    return legs
 
 
 def outcomes(profile, events, ends, first=0):

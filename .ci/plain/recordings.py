@@ -17,6 +17,7 @@ if hasattr(sys, "set_int_max_str_digits"):
 
 LONGEST_LINE = 65536
 ROOM = 16384
+MOST_READS = 1024
 GREATEST_SAMPLE = 2**64 - 1
 GREATEST_RATE = 18446744073
 
@@ -26,9 +27,6 @@ NO_ORDER = b"does not follow"
 # Sources where a START may be a repeated one, so that it begins a packet only where none is under
 # way and nothing is skipped.
 STARTS_MAY_BE_REPEATED = ("saleae", "beagle")
-# Sources where a STOP (or result) that is itself a fault ends what is skipped behind it: "a `stop`
-# that does not follow is one".
-STOP_THAT_DOES_NOT_FOLLOW_IS_ONE = ("saleae",)
 
 
 # "Each line of the recording is one of four"
@@ -59,10 +57,15 @@ class Other(NamedTuple):
 class Fault(NamedTuple):
     """It is a fault."""
     reason: bytes
+    ends: bool = False  # it can be read, and is itself a STOP or a result
 
 
 class FaultOfLine(Exception):
     """Ends the reading of a line, with the reason."""
+
+    def __init__(self, reason, ends=False):
+        super().__init__(reason)
+        self.reason, self.ends = reason, ends
 
 
 class DoesNotFollow(Exception):
@@ -73,9 +76,9 @@ class NoRoom(Exception):
     """A packet has more bytes than there is room for."""
 
 
-def need(holds, reason=NO_SENSE):
+def need(holds, reason=NO_SENSE, ends=False):
     if not holds:
-        raise FaultOfLine(reason)
+        raise FaultOfLine(reason, ends)
 
 
 def need_order(holds):
@@ -135,6 +138,7 @@ def error_code(some_bytes):
 class Packet(NamedTuple):
     """What ends well."""
     text: bytes
+    is_code_computed: bool = False
 
 
 class Failed(NamedTuple):
@@ -228,7 +232,7 @@ class Source:
             need(line is not None)
             return self.read(line)
         except FaultOfLine as fault:
-            return Fault(fault.args[0])
+            return Fault(fault.reason, fault.ends)
 
 
 # sigrok
@@ -250,10 +254,24 @@ ANNOTATIONS = [
     (b'data-read: "Data read: %b" "DR: %b" "%b"', ("byte", True)),
     (b'data-write: "Data write: %b" "DW: %b" "%b"', ("byte", False)),
 ]
+# What the decoder says of its classes, where that is more than their names.
+DESCRIPTIONS = {
+    b"start": [b"start condition"],
+    b"repeat-start": [b"start repeat", b"repeat start condition"],
+    b"stop": [b"stop condition"],
+    b"bit": [b"data/address bit"],
+}
+
+
+def labels_of(annotation):
+    """What PulseView may write in front of an annotation, in small letters: its row or its class."""
+    name = annotation.partition(b":")[0]
+    row = b"bits" if name == b"bit" else b"address/data"
+    return [row, name] + DESCRIPTIONS.get(name, [name.replace(b"-", b" ")])
 
 
 class Sigrok(Source):
-    """"what `sigrok-cli -P i2c` prints .. at its levels .., and PulseView's default export"."""
+    """"what `sigrok-cli -P i2c` prints .. at its levels .., and PulseView's exports"."""
 
     def __init__(self, bus, rate, unshifted):
         super().__init__(bus)
@@ -272,9 +290,16 @@ class Sigrok(Source):
         # colon)"
         name, separator, text = rest.partition(b": ")
         need(separator and name and b":" not in name)
+        said = self.said(text)
+        # "a line settles the bus only if it is an event of the decoder"
+        need(said or self.bus is not None)
         if self.is_other(name):
             return Other("other buses")
-        start, events = self.events(text)
+        need(said)
+        annotation, events, digits = said
+        if isinstance(events, tuple):
+            events = [self.byte(*events, int(digits, 16))]
+        start = annotation.startswith(b"start:")
         return Events(
             events,
             # "`Start` .. cut[s] the packet under way and begin[s its] own"
@@ -283,21 +308,28 @@ class Sigrok(Source):
             time=self.time(sample) if start else None,
         )
 
-    def events(self, text):
-        """Whether it is `Start`, and its events."""
+    def said(self, text):
+        """The annotation of a text, its events and its digits; None where it is none."""
+        found = self.spelled(text)
+        if found:
+            return found
+        # "the row (`I²C: Address/Data: Start`) or the class (`I²C: Start condition: Start`), in any
+        # case"
+        label, _, rest = text.partition(b":")
+        found = self.spelled(rest[1:]) if rest[:1] == b" " else None
+        return found if found and label.lower() in labels_of(found[0]) else None
+
+    def spelled(self, text):
+        """The same of a text without a label."""
+        digits = (re.findall(rb"\b[0-9a-fA-F]{2}\b", text) or [b""])[0]
         for annotation, events in ANNOTATIONS:
-            digits = (re.findall(rb"\b[0-9a-fA-F]{2}\b", text) or [b""])[0]
             annotation = annotation.replace(b"%b", digits)
             plain = annotation.split(b'"')[1]
-            row = b"Bits" if annotation.startswith(b"bit:") else b"Address/Data"
-            # "at its levels (`-l 3`: `"Start"` in quotes; 4 and 5: `start: "Start" "S"`), and
-            # PulseView's default export (`25000-25000 I²C: Address/Data: Start`)"
-            if text in (plain, b'"' + plain + b'"', annotation, row + b": " + plain):
-                if isinstance(events, tuple):
-                    need(digits)
-                    events = [self.byte(*events, int(digits, 16))]
-                return annotation.startswith(b"start:"), events
-        raise FaultOfLine(NO_SENSE)
+            # "at its levels (`-l 3`: `"Start"` in quotes; 4 and 5: `start: "Start" "S"`)"
+            if text in (plain, b'"' + plain + b'"', annotation):
+                return None if isinstance(events, tuple) and not digits else (
+                    annotation, events, digits)
+        return None
 
     def byte(self, event, reads, byte):
         if event == "byte":
@@ -376,15 +408,6 @@ class Table:
         """Whether the row has as many fields as the heading."""
         return self.columns is not None and self.is_whole and len(self.row) == len(self.columns)
 
-    def known(self, name):
-        """A field where it can be read, else None: a comma ends it, or it is the last one of a row
-        that can be read. (What a line that was cut has at its end is not known.)"""
-        if self.columns is None:
-            return None
-        at = self.columns.index(name)
-        ended = len(self.row) if self.can_be_read() or not self.is_whole else len(self.row) - 1
-        return self.row[at] if at < ended else None
-
     def of(self, name, absent=None):
         """A field of a row that can be read."""
         return self.row[self.columns.index(name)] if name in self.columns else absent
@@ -393,10 +416,26 @@ class Table:
 # Saleae
 
 SECONDS = rb"[0-9]+\.[0-9]+"
+NUMBER = rb"([-+]?)([0-9]+)(?:\.([0-9]+))?(?:[eE]([-+]?[0-9]+))?"
 ISO_8601 = (
     rb"[0-9]{4}-[0-9]{2}-[0-9]{2}T[0-9]{2}:[0-9]{2}:[0-9]{2}(\.[0-9]+)?"
-    rb"(Z|\+[0-9]{2}:[0-9]{2}|\+[0-9]{4})?"
+    rb"(Z|[-+][0-9]{2}:[0-9]{2}|[-+][0-9]{4})?"
 )
+# "by 40 places at most, over 40 digits at most in front of the point and behind it"
+MOST_PLACES = 40
+
+
+def written_out(sign, whole, part, exponent):
+    """A number without its exponent, exactly; None where it is too long."""
+    places = int(exponent)
+    if max(abs(places), len(whole), len(part)) > MOST_PLACES:
+        return None
+    value = int(whole + part)
+    behind = max(0, len(part) - places)
+    value *= 10 ** (behind + places - len(part))
+    digits = b"%0*d" % (behind + 1, value)
+    front, back = digits[:len(digits) - behind], digits[len(digits) - behind:]
+    return sign + front + (b"." + back if back else b"")
 
 
 class Saleae(Source):
@@ -414,14 +453,15 @@ class Saleae(Source):
         if self.table.is_heading(line):
             return Nothing(cuts=True)
         self.table.read(line)
-        # "the analyzer's `name`"; "a line whose bus can be read and is another is passed over,
-        # whatever else it has"
-        name = self.table.known(b"name")
-        # (an analyzer has a name: an empty one is the end of a row that was cut)
-        need(name != b"")
-        if name is not None and self.is_other(name):
-            return Other("other buses")
+        # "a row with another number of fields than the heading is a fault", of whatever bus
         need(self.table.can_be_read())
+        # "the analyzer's `name`" (an empty one is none)
+        name = self.table.of(b"name")
+        need(name != b"")
+        if self.is_other(name):
+            # (the end of the name that is followed, and a quote behind it: the row lost its front)
+            need(not (name[-1:] == b'"' and self.bus.endswith(name[:-1])))
+            return Other("other buses")
         kind = self.table.of(b"type")
         if kind == b"start":
             return Events([("start",)], begins=True, time=self.time())
@@ -461,11 +501,17 @@ class Saleae(Source):
         return value
 
     def time(self):
-        # "saleae: digits, a point, digits, or `YYYY-MM-DDThh:mm:ss`, a point and digits or not,
-        # then `Z`, `+hh:mm`, `+hhmm` or nothing (anything else gives no line)"
+        # "saleae: a sign or none, digits, a point and digits or not, an exponent or none, or
+        # `YYYY-MM-DDThh:mm:ss`, a point and digits or not, then `Z`, `+hh:mm`, `+hhmm`, `-hh:mm`,
+        # `-hhmm` or nothing (anything else gives no line)"
         text = self.table.of(b"start_time", b"")
-        if re.fullmatch(SECONDS, text):
-            return b"# " + text + b" s"
+        seconds = re.fullmatch(NUMBER, text)
+        if seconds:
+            sign, whole, part, exponent = seconds.groups()
+            # "as the table has them (exponents written out)"
+            if exponent:
+                text = written_out(sign, whole, part or b"", exponent)
+            return b"# " + text + b" s" if text else None
         # "(ISO 8601: `# T`)"
         return b"# " + text if re.fullmatch(ISO_8601, text) else None
 
@@ -499,6 +545,15 @@ class Beagle(Source):
         before, self.index = self.index, None
         self.table.read(line)
         need(self.table.can_be_read())
+        try:
+            return self.read_row(before)
+        except FaultOfLine as fault:
+            # "a row whose `S/P` ends in P, whatever is wrong with it" (if it has no quote)
+            marks = self.table.of(b"S/P")
+            raise FaultOfLine(fault.reason, marks[-1:] == b"P" and b'"' not in marks)
+
+    def read_row(self, before):
+        """What a row with all its fields is, behind one with a number."""
         of = self.table.of
         need(re.fullmatch(rb"[0-9]+", of(b"Index")))
         self.index = int(of(b"Index"))
@@ -575,6 +630,9 @@ PERF_LOST = re.compile(rb"PERF_RECORD_LOST lost ([0-9]+)$")
 # "`entries-in-buffer/entries-written: A/B` with B over A"
 ENTRIES = re.compile(rb"# entries-in-buffer/entries-written: ([0-9]+)/([0-9]+)(?![^ ])")
 
+# "`/*` in front of the name, and ` */` at the end of the line"
+COMMENT_END = b" */"
+
 DIGIT = rb"[0-9a-fA-F]"
 BYTES = rb"(?:%s{2}(?:-%s{2})*)?" % (DIGIT, DIGIT)
 NOT_SHOWN = b"ARG TYPE NOT FIELD BUT 2"
@@ -594,6 +652,13 @@ def loss_of(line):
         kept, written = map(int, match.groups())
         return b"%d" % (written - kept) if written > kept else None
     return None
+
+
+def result_of(text):
+    """A result as it is told: 32,768 to 65,535 is that number less 65,536."""
+    number = int(text)
+    is_unsigned = text[:1] != b"-" and 32768 <= number <= 65535
+    return b"%d" % (number - 65536) if is_unsigned else text
 
 
 def bytes_of(text):
@@ -627,6 +692,11 @@ class Trace(Source):
         if any(name.group(1) == self.other_kind for name in names):
             return Other(self.other_kind.decode())
         name = names[0]
+        # The tracer function_graph has an event as a comment: both ends of it, or none.
+        is_opened = re.search(rb"(?:^| )/\* +$", line[:name.start()]) is not None
+        need(is_opened == line.endswith(COMMENT_END))
+        if is_opened:
+            line = line[:-len(COMMENT_END)]
         # "(blanks behind the event's name ..)"
         match = re.match(rb" +(i2c-[0-9]+)(?: (.*)|$)", line[name.end():], re.S)
         need(match)
@@ -685,6 +755,9 @@ class KernelPacket:
 
     def message(self, event):
         need_order(event.number == len(self.messages) and not self.replies)
+        # "or messages after 1,024 that read"
+        if sum(message.reads for message in self.messages) >= MOST_READS:
+            raise NoRoom
         self.put(1 + len(event.some_bytes))
         self.messages.append(event)
 
@@ -742,7 +815,7 @@ class Kernel(Trace):
         if name == b"result":
             match = re.fullmatch(rb"n=([0-9]+) ret=(-?[0-9]+)", text)
             need(match)
-            return Events(Result(int(match.group(1)), match.group(2)), ends=True)
+            return Events(Result(int(match.group(1)), result_of(match.group(2))), ends=True)
         shape = rb"#([0-9]+) a=(%b{3}) f=(%b{4}) l=([0-9]+)" % (DIGIT, DIGIT)
         if name != b"read":
             shape += rb" \[(" + BYTES + rb")\]"
@@ -828,7 +901,12 @@ class SmbusPacket:
         # of the call from line M is not shown`"
         if is_call and self.reply is None:
             return NotShown(b"the reply of the call from line %d is not shown")
-        return Packet(spelled(self.legs()))
+        return Packet(spelled(self.legs()), self.has_code())
+
+    def has_code(self):
+        # "QUICK and I2C_BLOCK_DATA never have an error code"
+        has_none = self.head.protocol in (b"QUICK", b"I2C_BLOCK_DATA")
+        return self.head.has_error_code and not has_none
 
     def legs(self):
         """The legs that SMBus draws; of bytes that are not known none."""
@@ -848,9 +926,8 @@ class SmbusPacket:
             legs = [(False, [head.code] + written)]
             if reads or protocol in CALLS:
                 legs.append((True, replied))
-        # "with the right error code where bit 0004 is set"; "QUICK and I2C_BLOCK_DATA never have an
-        # error code"
-        if head.has_error_code and protocol not in (b"QUICK", b"I2C_BLOCK_DATA"):
+        # "with the right error code where bit 0004 is set"
+        if self.has_code():
             on_wire = []
             for is_read, some_bytes in legs:
                 on_wire += [2 * head.address + is_read] + some_bytes
@@ -871,10 +948,10 @@ class SmbusTrace(Trace):
         match = re.fullmatch(shape, text)
         need(match)
         address, flags, code, protocol, *more = match.groups()
-        # "An address over 7 bits makes no sense."
-        need(int(address, 16) <= 0x7F)
         # "I2C_BLOCK_BROKEN and unknown protocols make no sense in each of the four"
         need(protocol in WRITTEN or protocol in BLOCKS)
+        # "An address over 7 bits makes no sense." (but such a result can be read)
+        need(int(address, 16) <= 0x7F, ends=name == b"result")
         # "`smbus_read` of a process call makes no sense."
         need(name != b"read" or protocol not in CALLS)
         event = Smbus(
@@ -884,7 +961,7 @@ class SmbusTrace(Trace):
             lengths = WRITTEN if name == b"write" else REPLIED
             event = event._replace(some_bytes=self.shown(lengths, protocol, *more))
         elif name == b"result":
-            event = event._replace(reads=more[0] == b"rd", returned=more[1])
+            event = event._replace(reads=more[0] == b"rd", returned=result_of(more[1]))
         # "0010 in `smbus_write` and `smbus_read` changes what is on the wire"
         begins = name in (b"write", b"read")
         is_plain = not begins or int(flags, 16) & 0x0010 == 0
@@ -925,6 +1002,7 @@ class Machine:
         self.first = self.last = self.time = None  # its first line, its last one, its time
         # "behind a heading, and at the start, reading begins at once"
         self.skipping = False
+        self.codes = 0  # error codes that were computed
 
     def take(self, number, line):
         """A line that is classified."""
@@ -942,6 +1020,8 @@ class Machine:
             self.passed[line.what] = self.passed.get(line.what, 0) + 1
         else:
             self.drop(number, line.reason)
+            # "reading begins behind it"
+            self.skipping = not line.ends
 
     def tell(self, number, what):
         self.out.append(b"# line %d: %b" % (number, what))
@@ -975,8 +1055,9 @@ class Machine:
             outcome = self.packet.take(line.given)
         except DoesNotFollow:
             self.drop(number, NO_ORDER)
-            if line.ends and self.name in STOP_THAT_DOES_NOT_FOLLOW_IS_ONE:
-                self.skipping = False
+            # "a line at fault that can be read and is itself a STOP, a result or a whole packet's
+            # row"
+            self.skipping = not line.ends
         except NoRoom:
             # "`# line N: the packet from line M is too long` (N the line whose bytes have no room)"
             self.tell(number, b"the packet from line %d is too long" % self.first)
@@ -995,6 +1076,7 @@ class Machine:
                 self.out.append(self.time)
             self.out.append(outcome.text)
             self.packets += 1
+            self.codes += outcome.is_code_computed
         elif isinstance(outcome, Failed):
             # "failed transfers do not change it", the status
             self.tell(number, outcome.told)
@@ -1004,8 +1086,8 @@ class Machine:
 
     def end(self):
         # "at the end a packet that is cut, then `# K lines of smbus were passed over` .., then
-        # `# K lines of other buses were passed over`, then `# no packets` where there is none.
-        # Always the plural."
+        # `# K lines of other buses were passed over`, then `# no packets` where there is none, then
+        # `# K error codes are computed, since the recording shows none`. Always the plural."
         self.cut()
         for what in ("smbus", "i2c", "other buses"):
             if what in self.passed:
@@ -1013,6 +1095,9 @@ class Machine:
                 self.out.append(told.encode())
         if self.packets == 0:
             self.out.append(b"# no packets")
+        if self.codes:
+            told = "# %d error codes are computed, since the recording shows none" % self.codes
+            self.out.append(told.encode())
         # "The status is 1 where there was a fault, a cut or too long packet, lost events or no
         # packet; 0 otherwise"
         status = 1 if self.is_bad or self.packets == 0 else 0

@@ -3,7 +3,7 @@
 import re
 
 MOST = 40  # bytes of a time
-LINE = re.compile(rb"^# (?:([0-9.]+) s|([0-9.:+TZ-]+))\r?\n", re.MULTILINE)
+LINE = re.compile(rb"^# (?:([-+]?[0-9.]+) s|([0-9.:+TZ-]+))\r?\n", re.MULTILINE)
 DATE = re.compile(rb"[0-9]{4}-[0-9]{2}-[0-9]{2}T[0-9]{2}")  # what ISO 8601 begins with
 
 

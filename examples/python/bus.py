@@ -26,7 +26,7 @@ def bring_up(bus: Any, profile: pmb.Profile) -> str:
     converter.write("CLEAR_FAULTS", page=255)
     for page, volts in enumerate(["1", "3.3"]):
         converter.write("VOUT_COMMAND", volts, page=page)
-        print("output", page, "is set to", converter["VOUT_COMMAND"])
+        print("output", page, "is set to", converter.read("VOUT_COMMAND", page=page))
     converter["TON_DELAY"] = 5
     print("the delay is", converter["TON_DELAY"])
     try:

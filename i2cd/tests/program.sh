@@ -13,6 +13,7 @@ ends 2 'a COMMAND without --run' "$i2cd" "$sample" --socket "$socket" -- true
 ends 2 'NAME is' "$i2cd" "$sample" --cuse ../i2c-0
 ends 2 'PATH is empty' "$i2cd" "$sample" --socket ''
 ends 2 '^usage: ' "$i2cd" "$sample" --rum
+ends 2 '^pmb-i2cd: .*--rum' "$i2cd" "$sample" --rum
 ends 125 '^usage: ' "$i2cd" "$sample" --rum --run -- true
 ends 3 'null: File exists' "$i2cd" "$sample" --cuse null
 ends 125 'no COMMAND' "$i2cd" "$sample" --run --
@@ -23,7 +24,9 @@ ends 3 'none/log: No such file' "$i2cd" "$sample" --socket "$socket" --log "$tem
 ends 3 'File name too long' "$i2cd" "$sample" --socket "$temporary/$(printf '%0120d' 0)"
 [ -e /dev/cuse ] || ends 3 '/dev/cuse: No such file' "$i2cd" "$sample" --cuse i2c-0
 printf '[[device]]\naddress = 0xb0\npec = "on"\n' >"$temporary/bad.toml"
-"$program" profile <"$temporary/bad.toml" 2>"$temporary/right"
+"$program" profile <"$temporary/bad.toml" 2>&1 | sed 's/^pmb: /pmb-i2cd: /' >"$temporary/right"
+grep -q '^pmb-i2cd: profile: BadAddress' "$temporary/right"
+check $? 'pmb profile tells a wrong profile in other words, so that this tries nothing'
 "$i2cd" "$temporary/bad.toml" --socket "$socket" 2>"$said"
 [ $? = 2 ] && cmp -s "$said" "$temporary/right"
 check $? 'a wrong profile is not told as pmb profile tells it'
@@ -134,6 +137,54 @@ wait "$server"
 [ $? = 9 ]
 check $? 'a signal is not handed on to the command'
 server=
+
+# ---- what is left of a server that is killed
+
+# Starts a server whose command has written its process to $temporary/process.
+start_command() {
+    rm -f "$temporary/process"
+    # shellcheck disable=SC2016
+    "$i2cd" "$sample" --run -- sh -c 'echo $$ >"$0.new" && mv "$0.new" "$0" && exec sleep 100' \
+        "$temporary/process" 2>"$temporary/server_said" &
+    server=$!
+    tries=0
+    while [ ! -s "$temporary/process" ] && [ $tries -lt 200 ]; do
+        sleep 0.05
+        tries=$((tries + 1))
+    done
+}
+
+mkdir "$TMPDIR/pmb-i2cd.mine" "$TMPDIR/pmb-i2cd.new"
+echo mine >"$TMPDIR/pmb-i2cd.mine/file"
+start_command
+kill -s KILL "$server"
+wait "$server" 2>/dev/null
+tries=0
+while kill -0 "$(cat "$temporary/process")" 2>/dev/null && [ $tries -lt 200 ]; do
+    sleep 0.05
+    tries=$((tries + 1))
+done
+! kill -0 "$(cat "$temporary/process")" 2>/dev/null
+check $? 'a command goes on without its bus'
+left=$(cd "$TMPDIR" && find . -name socket)
+[ -n "$left" ]
+check $? 'a server that is killed leaves no directory, so that this tries nothing'
+start_command
+[ ! -e "$TMPDIR/$left" ] && [ ! -d "$TMPDIR/${left%/socket}" ]
+check $? 'a server leaves the directory of one that was killed'
+# (what is in use, is not its own or may be new stays)
+ends 0 '' "$i2cd" "$sample" --run -- true
+[ "$(cd "$TMPDIR" && find . -name socket | wc -l)" = 1 ] && [ -e "$TMPDIR/pmb-i2cd.mine/file" ] &&
+    [ -d "$TMPDIR/pmb-i2cd.new" ]
+check $? 'a server removes a directory that is in use, is another one, or is new'
+kill -s TERM "$server"
+wait "$server"
+server=
+touch -d '2 minutes ago' "$TMPDIR/pmb-i2cd.new"
+ends 0 '' "$i2cd" "$sample" --run -- true
+[ "$(ls "$TMPDIR")" = pmb-i2cd.mine ]
+check $? 'a server leaves an old directory without a socket'
+rm -r "$TMPDIR/pmb-i2cd.mine"
 
 # ---- where it finds the shim, and what install.sh does
 

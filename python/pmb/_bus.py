@@ -150,6 +150,8 @@ class Bus:
         self._lock = threading.RLock()
         self._handle: Optional[_Handle] = None
         self._pec = 0
+        # How often it was opened, so how many power-ups its devices had.
+        self._openings = 0
         # What the library has logged and `events` has not returned.
         self._log: List[str] = []
         self._room = ctypes.create_string_buffer(4096)
@@ -174,6 +176,7 @@ class Bus:
                 raise MemoryError("no memory for the devices")
             _raise_status(status)
             self._handle = handle
+            self._openings += 1
 
     def close(self) -> None:
         """Gives the memory back. To close it again does nothing. Each call but `events` and `open` is

@@ -28,6 +28,8 @@ class Command(NamedTuple):
     is_status: bool
     # Whether VOUT_MODE says what its words are.
     is_voltage: bool
+    # Whether it has a register for each page.
+    is_paged: bool
 
 
 def commands_of(profile: Profile, address: int) -> Tuple[str, Dict[int, Command]]:
@@ -50,7 +52,17 @@ def _command(code: int, found: List[Any]) -> Command:
         _form([it["reply"] for it in found if it["kind"] == "call"]),
         any("bits" in it or "clears" in it for it in found),
         any(it.get("raw") == "unknown" for it in found),
+        any("page" in it for it in found),
     )
+
+
+def has_pages(profile: Profile, address: int, mode: str, commands: Dict[int, Command]) -> bool:
+    """Whether a device has PAGE and several pages: whether a simulated one takes the second as PAGE.
+    (Where PAGE isn't written there may be several.)"""
+    if PAGE not in commands or commands[PAGE].written is None:
+        return PAGE in commands
+    line = "write {:02x} 00 01{}".format(address, "" if mode == "off" else " pec")
+    return profile.run(line).endswith("# done\n")
 
 
 def _form(found: List[str]) -> Optional[int]:

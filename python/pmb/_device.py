@@ -4,28 +4,16 @@ What a command looks like on the bus, and which code a quantity has, is asked of
 lines and the requests that it builds, and of the objects that its reader makes of what was on the wire.
 """
 
-import errno
+import contextlib
 import operator
-import os
-import sys
 import threading
-from typing import (
-    Any,
-    Callable,
-    Dict,
-    Iterator,
-    List,
-    Optional,
-    Protocol,
-    Tuple,
-    Union,
-)
+from functools import partial
+from typing import Any, Callable, Dict, Iterator, List, Optional, Protocol, Tuple, Union
 
 from . import (
     Error,
     Number,
     Profile,
-    Reader,
     Text,
     _data,
     _exact,
@@ -34,25 +22,21 @@ from . import (
     _within,
     quantity_text,
 )
-from ._bus import MOST_BLOCK, READS_BLOCK, Bus
-from ._commands import BLOCK, PAGE, VOUT_MODE, Command, commands_of, first_leg
+from ._bus import Bus
+from ._commands import BLOCK, PAGE, VOUT_MODE, Command, commands_of, first_leg, has_pages
 from ._pieces import wrong_type as _wrong_type
-from ._reading import Reading, TransferError, reading_of
+from ._reading import Reading, reading_of
+from ._selection import Exclusive, Selection, Shared
+from ._transfers import Transfers, Wire, fault_of
 
-# What `funcs` has of a bus that reads blocks whose first byte tells their length.
-_READS_BLOCKS = 0x01000000
 # Numbers of this size are outside the range of each format.
 _MOST = 1 << 61
+# What is written as it is.
+_RAW = (bytes, bytearray, memoryview, list)
 
 # What is written: nothing, a quantity, bytes, or a number or a text that stands for bytes.
 Value = Union[None, Number, bytes, bytearray, memoryview, List[int]]
 _Key = Union[str, int]
-
-
-class _Wire(Protocol):
-    """What a device needs of a bus."""
-
-    def i2c_rdwr(self, *i2c_msgs: Any) -> Any: ...
 
 
 class _File(Protocol):
@@ -81,44 +65,72 @@ class Device:
     - an `int` for another command of 1, 2, 4 or 8 bytes, low byte first, and a text for a block;
     - `None` for a command without data.
 
-    A voltage is in the format that VOUT_MODE names. That is read from the device before a voltage is
-    written, and where a voltage is read and nothing before tells it. PAGE is written where another
-    page is asked for. Packets have packet error codes if the profile says `on`, and if it says
-    `optional` unless `pec` is `False`. Each transfer is one `i2c_rdwr` of the bus; where that fails,
-    as where a device refuses a byte, its `OSError` goes to the caller.
+    A voltage is in the format that VOUT_MODE names. On a device with several pages `page` says of which
+    one a command is read or written; without it, it is the page that `device.page = N` has set, or else
+    the one that is selected on the device.
+
+    Another master, a program or a firmware may write PAGE and VOUT_MODE too. So PAGE is written, or
+    read, and VOUT_MODE is read, before each access, and both are read again after it. Where one of them
+    was changed, all is done once more, up to three times, and then a `TransferError` says so. With
+    `exclusive=True` nobody else writes them: they are kept, until `bus.open()` or an error.
+
+        >>> board = "[[device]]\\naddress = 0x58\\npec = 'off'\\npages = 2"
+        >>> for exclusive in (False, True):
+        ...     bus = pmb.Bus(board)
+        ...     device = pmb.Device(bus, board, 0x58, exclusive=exclusive)
+        ...     for _ in range(2):
+        ...         device.write("OPERATION", 0x80, page=1)
+        ...     print(bus.events(), end="")
+        S b0 A 00 A 01 A P
+        S b0 A 01 A 80 A P
+        S b0 A 00 A S b1 A 01 N P
+        S b0 A 00 A 01 A P
+        S b0 A 01 A 80 A P
+        S b0 A 00 A S b1 A 01 N P
+        S b0 A 00 A 01 A P
+        S b0 A 01 A 80 A P
+        S b0 A 01 A 80 A P
+
+    Packets have packet error codes if the profile says `on`, and if it says `optional` unless `pec` is
+    `False`. Each transfer is one `i2c_rdwr` of the bus; where that fails, as where a device refuses a
+    byte, its `OSError` goes to the caller.
 
     Each packet is read by a `Reader` under the profile: one that it refuses, such as one with a wrong
     packet error code, is a `TransferError`. `log` is a file of text, or is called with a text: it gets
     what was on the wire, a line for each packet. Over another bus than a `pmb.Bus` that is made of
-    what was sent and what came, and a transfer that failed is a comment.
+    what was sent and what came, and a transfer that failed is a comment. So is what is done once more.
 
-    Calls of several threads come one after the other.
+    Calls of several threads come one after the other, over a `pmb.Bus` those of several devices too.
     """
 
     __module__ = "pmb"
 
     def __init__(
         self,
-        bus: Union[Bus, _Wire],
+        bus: Union[Bus, Wire],
         profile: _Profiled,
         address: int,
         *,
         pec: Optional[bool] = None,
         log: Union[None, _File, Callable[[str], object]] = None,
+        exclusive: bool = False,
     ) -> None:
-        self._lock = threading.RLock()
-        self._bus, self._messages = bus, _message_class(bus)
         given = profile if isinstance(profile, Profile) else Profile(_profile_bytes(profile))
         self._profile, self._address = given, _within("address", address, 0x7F)
         mode, self._commands = commands_of(given, self._address)
         self._by_name = {it.name: it for it in self._commands.values()}
         if pec is not None and mode != "optional" and pec != (mode == "on"):
             raise ValueError("the profile says pec = {!r} of {:02x}".format(mode, address))
-        self._has_pec = mode == "on" or mode == "optional" and pec is not False
-        self._log = log if log is None or callable(log) else log.write
-        # (without a VOUT_MODE to read, the profile's is the only one)
-        self._reader = Reader(given, late=True, fixed_vout_mode=not self._is_read(VOUT_MODE))
-        self._page: Optional[int] = None
+        has_pec = mode == "on" or mode == "optional" and pec is not False
+        writes_log = log if log is None or callable(log) else log.write
+        self._transfers = Transfers(bus, given, self._address, has_pec, writes_log)
+        kind = Exclusive if exclusive else Shared
+        several = has_pages(given, self._address, mode, self._commands)
+        self._selection: Selection = kind(self._transfers, self._commands, several)
+        # (an access is some transfers: no other device of the same bus comes between them)
+        self._simulated = bus if isinstance(bus, Bus) else None
+        self._openings = self._simulated._openings if self._simulated else 0
+        self._lock = self._simulated._lock if self._simulated else threading.RLock()
 
     @property
     def address(self) -> int:
@@ -144,34 +156,30 @@ class Device:
 
     @property
     def page(self) -> Optional[int]:
-        """The selected page, 255 for all. It is read from the device where it isn't known, and is
-        `None` if there is no PAGE to read. To set it writes PAGE where that changes it; to set it to
-        `None` reads it anew, as after somebody else may have written it.
+        """The page of what names none, 255 for all. To set it selects it, by a write of PAGE. While it
+        isn't set, or `None`, that is the page which is selected on the device: it is read, and is
+        `None` if there is no PAGE to read.
 
             >>> import pmb
             >>> profile = "[[device]]\\naddress = 0x58\\npec = 'off'\\npages = 2"
             >>> bus = pmb.Bus(profile)
             >>> device = pmb.Device(bus, profile, 0x58)
-            >>> device.page = 1
+            >>> device.page, bus.events()
+            (0, 'S b0 A 00 A S b1 A 00 N P\\n')
             >>> device.page = 1
             >>> device.page, bus.events()
             (1, 'S b0 A 00 A 01 A P\\n')
         """
-        with self._lock:
-            if self._page is None and self._is_read(PAGE):
-                self._get(self._commands[PAGE])
-            return self._page
+        with self._call():
+            return self._selection.page()
 
     @page.setter
     def page(self, page: Optional[int]) -> None:
-        with self._lock:
-            if page is not None:
-                self._select(page)
-            elif self._is_read(PAGE):
-                self._get(self._commands[PAGE])
+        with self._call():
+            self._selection.choose(page)
 
     def read(self, command: _Key, page: Optional[int] = None) -> Reading:
-        """Reads a command, by its name or its code, of a page or of the selected one.
+        """Reads a command, by its name or its code, of a page or of that of `device.page`.
 
             >>> import pmb
             >>> profile = "[[device]]\\naddress = 0x58\\npec = 'off'\\npages = 2\\nvout_mode = [23, 24]"
@@ -179,20 +187,17 @@ class Device:
             >>> [device.read("VOUT_MODE", page=page).data for page in (0, 1)]
             [b'\\x17', b'\\x18']
         """
-        with self._lock:
+        with self._call():
             named = self._command(command)
             if named.read is None:
                 raise Error("NotAllowed", named.name)
-            self._select(page)
-            it = self._get(named)
-            if it.get("raw") == "unknown":
-                self._learn()
-                it = self._get(named)
-            return reading_of(it)
+            get = partial(self._transfers.get, named)
+            return reading_of(self._access(named, page, get, named.is_voltage))
 
     def write(self, command: _Key, value: Value = None, page: Optional[int] = None) -> None:
         """Writes a command. Without a value it is one without data. What can't be written is an `Error`
-        with the fault that `pmb run` has for it, and the command as its place.
+        with the fault that `pmb run` has for it, and the command as its place. To write PAGE sets
+        `device.page`.
 
             >>> import pmb
             >>> profile = "[[device]]\\naddress = 0x58\\npec = 'optional'"
@@ -206,14 +211,18 @@ class Device:
             Traceback (most recent call last):
             pmb.Error: Above in TON_DELAY
         """
-        with self._lock:
+        with self._call():
             named = self._command(command)
-            self._select(page)
+            if named.is_voltage and value is not None and not isinstance(value, _RAW):
+                put_voltage = partial(self._put_voltage, named, _quantity(value))
+                self._access(named, page, put_voltage, is_voltage=True, is_write=True)
+                return
             sent = self._encoded(named, value)
+            self._access(named, page, partial(self._transfers.put, sent), is_write=True)
             if named.code == PAGE:
-                # (until the device has taken it)
-                self._page = None
-            self._send(self._messages.write(self._address, sent))
+                self._selection.chosen = sent[1]
+            elif named.code == VOUT_MODE:
+                self._selection.is_fixed = False
 
     def call(
         self, command: _Key, data: Union[bytes, List[int]], page: Optional[int] = None
@@ -227,18 +236,20 @@ class Device:
             >>> list(device.call("COEFFICIENTS", [0x88, 1]).data)
             [3, 0, 2, 0, 1]
         """
-        with self._lock:
+        with self._call():
             named = self._command(command)
             if named.called is None:
                 raise Error("NotAllowed", named.name)
-            self._select(page)
             reply = " 00" * (2 if named.called == BLOCK else named.called)
             line = "call {:02x} {:02x} {} :{}"
-            sent = line.format(self._address, named.code, _data(data).hex(" "), reply)
-            return reading_of(self._ask(self._sent(named, sent), named.called))
+            sent = self._transfers.first_leg(
+                named, line.format(self._address, named.code, _data(data).hex(" "), reply)
+            )
+            ask = partial(self._transfers.ask, sent, named.called)
+            return reading_of(self._access(named, page, ask, is_write=True))
 
     def status(self, page: Optional[int] = None) -> Dict[str, List[str]]:
-        """The bits that are set in each status register, by their names.
+        """The bits that are set in each status register, by their names, all of one page.
 
             >>> import pmb
             >>> profile = "[[device]]\\naddress = 0x58\\npec = 'on'\\nstandard = false\\n"
@@ -247,10 +258,12 @@ class Device:
             >>> pmb.Device(pmb.Bus(profile), profile, 0x58).status()
             {'STATUS_BYTE': [], 'STATUS_CML': []}
         """
-        with self._lock:
-            self._select(page)
+        with self._call():
             registers = [it for it in self._commands.values() if it.is_status and it.read]
-            return {it.name: self._get(it)["bits"] for it in registers}
+            found: Dict[str, List[str]] = self._selection.under(
+                page, lambda: {it.name: self._transfers.get(it)["bits"] for it in registers}
+            )
+            return found
 
     def __getitem__(self, command: _Key) -> Reading:
         return self.read(command)
@@ -273,7 +286,37 @@ class Device:
     def __reduce__(self) -> Tuple[Any, ...]:
         raise TypeError("a pmb.Device has no copy")
 
-    # ---- commands and pages
+    # ---- accesses
+
+    @contextlib.contextmanager
+    def _call(self) -> Iterator[None]:
+        """A call: none of another thread comes between, and after an error nothing is kept."""
+        with self._lock:
+            self._transfers.events = ""
+            if self._simulated and self._simulated._openings != self._openings:
+                self._openings = self._simulated._openings
+                self._selection.forget()
+            try:
+                yield
+            except BaseException:
+                self._selection.forget()
+                raise
+
+    def _access(
+        self,
+        named: Command,
+        page: Optional[int],
+        act: Callable[[], Any],
+        is_voltage: bool = False,
+        is_write: bool = False,
+    ) -> Any:
+        """The object of an access to a command, under a page."""
+        if named.code != PAGE:
+            return self._selection.under(page, act, is_voltage, is_write)
+        # (PAGE is the same on each page, and is not what it was after it is written)
+        if page is not None:
+            self._selection.select(_within("page", page, 0xFF))
+        return act()
 
     def _command(self, command: _Key) -> Command:
         if isinstance(command, str):
@@ -286,48 +329,29 @@ class Device:
             raise KeyError("the device at {:02x} has no command {}".format(self._address, named))
         return found
 
-    def _is_read(self, code: int) -> bool:
-        return code in self._commands and self._commands[code].read is not None
-
-    def _select(self, page: Optional[int]) -> None:
-        if page is not None and self._page != _within("page", page, 0xFF):
-            if PAGE not in self._commands:
-                raise Error("UnknownCommand", "PAGE")
-            self.write(PAGE, bytes([page]))
-
-    def _learn(self) -> None:
-        """Reads the page where it isn't known, and its VOUT_MODE."""
-        for code in (PAGE, VOUT_MODE):
-            if self._is_read(code) and not (code == PAGE and self._page is not None):
-                self._get(self._commands[code])
-
     # ---- what is written
 
     def _encoded(self, named: Command, value: Value) -> bytes:
-        """What a write sends after the address, with its packet error code."""
-        if value is None or isinstance(value, (bytes, bytearray, memoryview, list)):
-            return self._raw(named, b"" if value is None else _data(value))
+        """What a write that is no voltage sends after the address, with its packet error code."""
+        if value is None or isinstance(value, _RAW):
+            return self._transfers.written(named, b"" if value is None else _data(value))
         if self._requested(named, "0")[1] == "NotAQuantity":
-            return self._raw(named, _plain(named, value))
-        before = self._mode_of_voltages(named) if named.is_voltage else ()
-        packet, fault = self._requested(named, _quantity(value), before)
+            return self._transfers.written(named, _plain(named, value))
+        return self._encoded_quantity(named, _quantity(value))
+
+    def _put_voltage(self, named: Command, text: str) -> Any:
+        """Writes a voltage under the page and the VOUT_MODE that were told for it."""
+        return self._transfers.put(self._encoded_quantity(named, text, self._mode_of_voltages(named)))
+
+    def _encoded_quantity(
+        self, named: Command, text: str, before: Tuple[str, ...] = ()
+    ) -> bytes:
+        """What a write of a quantity sends, on devices that are as simulated ones are after other
+        requests."""
+        packet, fault = self._requested(named, text, before)
         if fault:
             raise Error(fault, named.name)
         return first_leg(packet)
-
-    def _raw(self, named: Command, data: bytes) -> bytes:
-        line = "write {:02x} {:02x} {}".format(self._address, named.code, data.hex(" "))
-        return self._sent(named, line)
-
-    def _sent(self, named: Command, line: str) -> bytes:
-        """What the packet of a line sends first, after the address."""
-        built = self._profile.build(self._with_code(line), strict=False)
-        if built.refusals:
-            raise Error(_fault(built), named.name)
-        return first_leg(built)
-
-    def _with_code(self, line: str) -> str:
-        return line + " pec" if self._has_pec else line
 
     def _requested(
         self, named: Command, quantity: str, before: Tuple[str, ...] = ()
@@ -336,20 +360,21 @@ class Device:
         fault."""
         line = "set {:02x} {:02x} {}".format(self._address, named.code, quantity)
         told = self._run(*before, line).splitlines()
-        return (told[-2], "") if told[-1] == "# done" else ("", _fault(told[-1]))
+        return (told[-2], "") if told[-1] == "# done" else ("", fault_of(told[-1]))
 
     def _mode_of_voltages(self, named: Command) -> Tuple[str, ...]:
         """The requests that bring simulated devices to the page and the VOUT_MODE of this one."""
-        lines, page, reply = [], self.page, "# done"
+        lines, page, mode, reply = [], self._transfers.page, self._selection.mode, "# done"
         if page is not None:
             lines.append("write {:02x} 00 {:02x}".format(self._address, page))
-        if self._is_read(VOUT_MODE):
-            mode = self._get(self._commands[VOUT_MODE])["bytes"]
+        if mode is not None:
             line = "write {:02x} 20 {}".format(self._address, mode)
             if self._commands[VOUT_MODE].written is None:
                 # (it can only be what the profile says)
                 line, reply = "read {:02x} 20".format(self._address), "# " + mode
             lines.append(line)
+        elif not self._selection.is_fixed:
+            raise Error("ModeUnknown", named.name)
         told = self._run(*lines)
         if told.refusals or lines and told.splitlines()[-1] != reply:
             raise Error("ModeUnknown", named.name)
@@ -357,114 +382,10 @@ class Device:
 
     def _run(self, *requests: str) -> Text:
         """What `pmb run` writes of requests on devices of their own."""
-        return self._profile.run("\n".join(map(self._with_code, requests)))
-
-    # ---- transfers
-
-    def _get(self, named: Command) -> Any:
-        """The object of a command that is read."""
-        assert named.read is not None
-        return self._ask(bytes([named.code]), named.read)
-
-    def _ask(self, sent: bytes, form: int) -> Any:
-        """The object of what is sent, and then of data of a form that are read."""
-        write, code = self._messages.write(self._address, sent), int(self._has_pec)
-        length = form
-        if form == BLOCK:
-            found, length = self._block(write, code)
-            if found is not None:
-                return found
-        return self._send(write, self._messages.read(self._address, length + code))
-
-    def _block(self, write: Any, code: int) -> Tuple[Any, int]:
-        """The object of a block of SMBus. For another block, `None` and how many bytes it has with its
-        count."""
-        if getattr(self._bus, "funcs", 0) & _READS_BLOCKS:
-            read = self._messages.read(self._address, 1 + MOST_BLOCK + code)
-            read.flags = READS_BLOCK
-            read.buf[0] = bytes([1 + code])
-            try:
-                return self._send(write, read), 0
-            except OSError as error:
-                if error.errno != errno.EPROTO or isinstance(error, TransferError):
-                    raise
-        # (its count alone makes no packet)
-        read = self._messages.read(self._address, 1)
-        self._send(write, read, is_packet=False)
-        return None, 1 + next(iter(read))
-
-    def _send(self, *messages: Any, is_packet: bool = True) -> Any:
-        """Sends messages, and returns the object of their packet."""
-        if isinstance(self._bus, Bus):
-            text, error = _recorded(self._bus, messages)
-        else:
-            text, error = _made(self._bus, self._address, messages)
-        if self._log is not None:
-            self._log(text)
-        found: List[Any] = self._reader.feed(text)
-        for it in found:
-            self._note(it)
-        if error is not None:
-            raise error
-        if is_packet and (not found or found[0]["kind"] == "refusal"):
-            raise TransferError(found[0]["reason"] if found else "Truncated", text)
-        return found[0] if found else None
-
-    def _note(self, it: Any) -> None:
-        """Keeps the page that a packet tells."""
-        if it["kind"] in ("read", "write") and it["code"] == "00" and len(it["bytes"]) == 2:
-            self._page = int(it["bytes"], 16)
-
-
-# ---- buses
-
-
-def _message_class(bus: Any) -> Any:
-    """The class of the messages that a bus takes: it is beside that of the bus, or of what it
-    inherits from."""
-    for each in reversed(type(bus).__mro__):
-        found = getattr(sys.modules.get(each.__module__), "i2c_msg", None)
-        if found is not None and hasattr(bus, "i2c_rdwr"):
-            return found
-    raise _wrong_type("bus", "a pmb.Bus or an smbus2.SMBus", bus)
-
-
-def _recorded(bus: Bus, messages: Any) -> Tuple[str, Optional[OSError]]:
-    """What a simulated bus has recorded of messages, and how they failed."""
-    with bus._lock:
-        bus._logged()
-        try:
-            bus.i2c_rdwr(*messages)
-        except OSError as error:
-            return bus._logged(), error
-        return bus._logged(), None
-
-
-def _made(bus: Any, address: int, messages: Any) -> Tuple[str, Optional[OSError]]:
-    """What was on the wire, by what was sent and what came; or how it failed, which doesn't say what
-    was on the wire until then."""
-    try:
-        bus.i2c_rdwr(*messages)
-    except OSError as error:
-        sent = " ".join(bytes(it).hex() for it in messages if not it.flags)
-        why = os.strerror(error.errno or errno.EIO)
-        return "# {:02x} {} failed: {}\n".format(address, sent, why), error
-    words = []
-    for it in messages:
-        data = bytes(it)
-        if it.flags == READS_BLOCK:
-            data = data[: data[0] + len(data) - MOST_BLOCK]
-        sent = " A ".join(map("{:02x}".format, bytes([address << 1 | it.flags & 1]) + data))
-        words.append("S {} {}".format(sent, "N" if it.flags else "A"))
-    return " ".join(words) + " P\n", None
+        return self._profile.run("\n".join(map(self._transfers.with_code, requests)))
 
 
 # ---- values
-
-
-def _fault(comment: str) -> str:
-    """The fault that a comment of the library tells, as `# line 1: Above`."""
-    return comment.partition(": ")[2].strip()
 
 
 def _plain(named: Command, value: Any) -> bytes:

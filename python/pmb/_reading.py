@@ -1,4 +1,4 @@
-"""What a device replied, and the error of a reply that is no packet."""
+"""What a device replied, and the error of a reply that is no packet or can't be trusted."""
 
 import errno
 from fractions import Fraction
@@ -7,10 +7,16 @@ from typing import Any, Dict, List, NamedTuple, Optional, Tuple, Union
 from . import quantity_text
 
 
+# (as Linux has it for another master on the bus: Documentation/i2c/fault-codes.rst)
+_ERRNO = {"BadPec": errno.EBADMSG, "PageChanged": errno.EAGAIN, "ModeChanged": errno.EAGAIN}
+
+
 class TransferError(OSError):
-    """What a device replied is no packet of its profile. `reason` is why, as a `Refusal` of
-    `pmb.objects` has it, and `events` is what was on the wire, as the text of a capture. `errno` is
-    EBADMSG for a wrong packet error code, and else EPROTO.
+    """What a device replied is no packet of its profile, or another master has changed its page or its
+    VOUT_MODE during an access, each time that it was done. `reason` is why: that of a `Refusal` of
+    `pmb.objects`, or `PageChanged` or `ModeChanged`. `events` is what was on the wire, as the text of a
+    capture. `errno` is EBADMSG for a wrong packet error code, EAGAIN for what was changed, and else
+    EPROTO.
 
         >>> import pmb
         >>> print(pmb.TransferError("BadPec", "S b0 A 20 A S b1 A 17 A 00 N P\\n"))
@@ -20,8 +26,7 @@ class TransferError(OSError):
     __module__ = "pmb"
 
     def __init__(self, reason: str, events: str) -> None:
-        number = errno.EBADMSG if reason == "BadPec" else errno.EPROTO
-        super().__init__(number, "{}: {}".format(reason, events.strip()))
+        super().__init__(_ERRNO.get(reason, errno.EPROTO), "{}: {}".format(reason, events.strip()))
         self.reason = reason
         self.events = events
 

@@ -5,8 +5,8 @@ data, and nothing else of the package is used.
 
 A piece other than the first is read after a front: packets that tell PAGE, PHASE and VOUT_MODE as
 the capture has told them up to there, and a refusal where something was lost, which is where a line
-was dropped, or there was a refusal whose packet may have set them. `tells` finds what a piece tells
-of these, and `reduced` keeps what still counts. What the front itself counts is subtracted again by
+was dropped, or there was a refusal at which a device may have been written to. `tells` finds what a
+piece tells of these, and `reduced` keeps what still counts. What the front itself counts is subtracted again by
 the caller. """
 
 import contextlib
@@ -45,17 +45,16 @@ _LOST: Told = ("", "lost", "", "")
 # What is kept of it, and the PAGE that was selected: `None` for that from before, and `_LOST` where
 # it isn't known.
 Kept = Tuple[Optional[Told], Told]
-# A packet that is refused at its second START. The next packet may begin there, so devices may have
-# been told anything in what is passed over, up to the STOP. It names no device.
-_LOSES = b"S S P"
 # What there is where a piece begins: what was told before it, and the numbers of events and lines.
 Start = Tuple[List[Told], int, int]
 
 # The start of a leg of a command that tells something, or that may leave VOUT_MODE untold.
 _TELLS = re.compile(rb"S\s+[0-9A-Fa-f]{2}\s+A\s+(?:00|04|05|12|14|16|18|20)\s+A")
 _RESTORES = ("12", "14", "16", "18")
-# What `check` says of a refusal: how many events come before the refused one, and the reason.
-_REFUSAL = re.compile(rb"# refusal at ([0-9]+): ([A-Za-z]+)")
+# What `check` says of a refusal: how many events come before the refused one.
+_REFUSAL = re.compile(rb"# refusal at ([0-9]+): ")
+# What `profile` says of a device: its address byte of a write.
+_ADDRESS = re.compile(rb"address +[0-9a-f]{2}, as a byte ([0-9a-f]{2}) to write")
 
 # ---- where to cut
 
@@ -259,19 +258,54 @@ def _mended_line(line: bytes, instead: bytes) -> bytes:
     return line if len(tokens) == len(words) else b" ".join([*tokens, instead])
 
 
-def _refusals(said: BinaryIO) -> Iterator[Tuple[int, bytes]]:
-    """The refusals that `check` tells of, each with the number of the refused event and the
-    reason."""
+def _refusals(said: BinaryIO) -> Iterator[int]:
+    """The numbers of the refused events that `check` tells of."""
     for line in said:
         found = _REFUSAL.match(line)
         if found is not None:
-            yield int(found.group(1)), found.group(2)
+            yield int(found.group(1))
+
+
+class _Losses:
+    """Where something may be lost: a write to a device of the profile, in a packet that is refused or
+    in what is passed over with it, may have set PAGE, PHASE or VOUT_MODE. (Where the refusal is in a
+    reply, the legs of the packet itself don't count.)"""
+
+    def __init__(self, job: Job) -> None:
+        sample = [word for word in job["read_words"] if word == "--sample"]
+        profile = [] if job["profile"] is None else [job["profile"]]
+        said, _ = _ran(["profile", *sample], iter(profile), lambda stdout: stdout.read())
+        addresses = _ADDRESS.findall(said)
+        # (outside of comments, S is always START)
+        writes = b"|".join(addresses) or b"(?!)"
+        self._writes = re.compile(rb"S(?:\s+[AN])*\s+(?i:%s)(?!\S)" % writes)
+        # What was heard since the refusal, as far as it isn't looked at yet; and whether it had a write.
+        self._rest, self._has_write = b"", False
+        # A packet that is refused at its second START, behind which there is a write.
+        self.mark = b" ".join([b"S S", *addresses[:1], b"P"])
+
+    def refused(self, front: bytes) -> None:
+        """Begins with the packet that is refused. Where a reply is read, the leg before it only says
+        what is to be read."""
+        leg = front.rpartition(b"S")[2].split()
+        is_reply = b"S" in front and leg != [] and int(leg[0], 16) % 2 == 1
+        self._rest, self._has_write = b"" if is_reply else front, False
+
+    def pass_over(self, text: bytes) -> None:
+        heard = self._rest + text
+        self._has_write = self._has_write or self._writes.search(heard) is not None
+        # (the address may come after the last START)
+        _, start, rest = heard.rpartition(b"S")
+        self._rest = b"S " if start and not set(rest.split()) - {b"A", b"N"} else b""
+
+    def found(self) -> bool:
+        return self._has_write
 
 
 def _packets_and_losses(
-    chunks: Iterator[bytes], refusals: Iterator[Tuple[int, bytes]]
+    chunks: Iterator[bytes], refusals: Iterator[int], losses: _Losses
 ) -> Iterator[bytes]:
-    """Of a text that has such refusals: the packets that may tell something, and `_LOSES` for each
+    """Of a text that has such refusals: the packets that may tell something, and a mark for each
     refusal at which something may be lost. No other refusal is there."""
     refusal = next(refusals, None)
     # What is left of the text so far, how many events come before it, and whether it is passed over
@@ -287,16 +321,18 @@ def _packets_and_losses(
                 begun, at = at, text.find(b"P", at) + 1
                 passes, at = not at, at or len(text)
                 before += words.count(b" x", begun, at)
+                losses.pass_over(text[begun:at])
+                if not passes and losses.found():
+                    yield losses.mark + b"\n"
             place = -1
             if refusal is not None and not passes:
-                place = _place_of_word(words, at, refusal[0] - before)
+                place = _place_of_word(words, at, refusal - before)
             stop = text.rfind(b"P", at, len(text) if place < 0 else place) + 1 or at
             yield from _packets_that_tell(text, at, stop)
             if refusal is not None and place >= 0:
-                if _loses(refusal[1], text[stop:place], text[place : place + 1]):
-                    yield _LOSES + b"\n"
+                losses.refused(text[stop:place])
                 # (the blank before the refused event)
-                at, before, passes = place - 1, refusal[0], True
+                at, before, passes = place - 1, refusal, True
                 refusal = next(refusals, None)
         before += words.count(b" x", at, stop)
         rest = text[stop:] or b" "
@@ -333,19 +369,6 @@ def _packets_that_tell(text: bytes, begin: int, end: int) -> Iterator[bytes]:
             yield text[start:stop] + b"\n"
 
 
-def _loses(reason: bytes, front: bytes, event: bytes) -> bool:
-    """Whether something may be lost where an event is refused after the front of a packet: that
-    packet, and what is passed over up to the next STOP, may have set PAGE, PHASE or VOUT_MODE.
-
-    Not so if the packet's first address is refused, or is of no device. A leg that is read sets
-    nothing, but a START in it may begin another packet."""
-    leg = front.rpartition(b"S")[2].split()
-    if reason == b"ReadFirst" or reason == b"UnknownDevice" and front.count(b"S") == 1:
-        return False
-    is_read = b"S" in front and leg != [] and int(leg[0], 16) % 2 == 1
-    return event == b"S" or not is_read
-
-
 def _told_by(it: Dict[str, Any]) -> Optional[Told]:
     """What an object of `json` tells of its device, if anything, or of all."""
     if it["kind"] == "refusal":
@@ -379,9 +402,10 @@ def tells(job: Job, path: str, begin: int, end: int) -> Answer:
         chunks = _chunks(path, begin, end)
         return _mended(chunks, instead) if keeps_going else chunks
 
+    losses = _Losses(job)
     # At a bad token the packet that was begun is dropped, and something may be lost. So the first
     # of these ends the packet, and the second is refused even if the first was passed over.
-    drops = _LOSES + b" " + _LOSES
+    drops = losses.mark + b" " + losses.mark
 
     def use_told(stdout: BinaryIO) -> None:
         most = 10000
@@ -395,7 +419,7 @@ def tells(job: Job, path: str, begin: int, end: int) -> Answer:
 
     def use_refusals(stdout: BinaryIO) -> None:
         refusals = _refusals(stdout)
-        packets = _packets_and_losses(text(drops), refusals)
+        packets = _packets_and_losses(text(drops), refusals, losses)
         _ran(["json", *job["read_words"]], itertools.chain(profile, packets), use_told)
         # (`json` may have ended first, at a bad token)
         for _ in refusals:
@@ -522,7 +546,7 @@ def _is_overwritten(old: Kept, page: Optional[Told], it: Told) -> bool:
 
 
 def _front(job: Job, told: List[Told]) -> List[bytes]:
-    """What comes before a piece: the profile, packets that tell what was told, and `_LOSES` where
+    """What comes before a piece: the profile, packets that tell what was told, and a mark where
     something was lost."""
     profile = [] if job["profile"] is None else [job["profile"] + b"\n%%\n"]
     if not told:
@@ -533,7 +557,8 @@ def _front(job: Job, told: List[Told]) -> List[bytes]:
     if status:
         raise ValueError("the profile has no packet for what was told of PAGE, PHASE and VOUT_MODE")
     packets = iter(built.splitlines(True))
-    front = (_LOSES + b"\n" if it == _LOST else next(packets) for it in told)
+    mark = _Losses(job).mark + b"\n" if _LOST in told else b""
+    front = (mark if it == _LOST else next(packets) for it in told)
     return [*profile, b"".join(front)]
 
 

@@ -6,9 +6,10 @@ use Rattle.pmb_beagle.specs.Classes.{TooLong, PacketTooLong, RowClass, GivesEven
 use Rattle.pmb_beagle.specs.Classes.{class_by, class_of, class_of_next, class_of_numbered, class_of_said}
 use Rattle.pmb_beagle.specs.Classes.{class_of_transaction, class_under, may_follow}
 use Rattle.pmb_beagle.specs.Columns.{heading_of, is_remark}
-use Rattle.pmb_beagle.specs.Export.{Says, OfCapture, OfOther, OfTransaction, Transaction, field_if, index_of}
-use Rattle.pmb_beagle.specs.Export.{is_marked, is_next, is_out_of_range, says_of, start_time}
-use Rattle.pmb_beagle.specs.Packets.{add, begin, end_if, fault, follow, numbered, on, skip, take_by}
+use Rattle.pmb_beagle.specs.Export.{Says, OfCapture, OfOther, OfTransaction, Transaction, ends_packet, field_if}
+use Rattle.pmb_beagle.specs.Export.{index_of, is_marked, is_next, is_out_of_range, says_of, start_time}
+use Rattle.pmb_beagle.specs.Packets.{add, begin, end_if, fault, fault_of, follow, numbered, on, refuse, skip}
+use Rattle.pmb_beagle.specs.Packets.{take_by}
 use Rattle.pmb_beagle.specs.Packets.{take_content, take_next, take_numbered, take_said, take_transaction}
 use Rattle.pmb_beagle.specs.Packets.{take_under, wire_of, with_bytes}
 use Rattle.pmb_beagle.specs.declared.beagle.Beagle.{Beagle}
@@ -22,8 +23,12 @@ use Rattle.pmb_recording.specs.declared.recording.PacketLines.{PacketLines}
 use Rattle.pmb_recording.specs.declared.recording.Recording.{Recording}
 
 -- a fault is told, and no packet is left
-faulted : (b : Beagle) (reason : Reason) → Faulted b.recording (fault b reason)
+faulted : (b : Beagle) (reason : Reason) → Faulted b.recording false (fault b reason)
 faulted b reason = record { reason = reason; told = refl; is_counted = omega arith; is_gone = refl; skips = refl }
+
+faulted_of : (b : Beagle) (ends : Bool) (reason : Reason) → Faulted b.recording ends (fault_of b ends reason)
+faulted_of b ends reason =
+    record { reason = reason; told = refl; is_counted = omega arith; is_gone = refl; skips = refl }
 
 anew : (b : Beagle) → BeginsAnew b.recording (on b (at_heading b.recording))
 anew b = record { told = refl; is_gone = refl; skips = refl }
@@ -56,14 +61,15 @@ begins b time t false false = Nothing refl
 abbrev OfRow : RowClass → Recording → Step Beagle → Type 0
 OfRow (GivesEvents time t) now step = GivenText now time t step.text
 OfRow SaysNothing now step = BeginsAnew now step
-OfRow IsFault now step = Faulted now step
+OfRow (IsFault ends) now step = Faulted now ends step
 
 -- a step that is taken where a test holds, and else is a fault
 tested : (b : Beagle) (time : List ℕ) (t : Transaction) (holds : Bool) (step : Step Beagle)
     → GivenText b.recording time t step.text
-    → OfRow (if holds then GivesEvents time t else IsFault) b.recording (if holds then step else fault b DoesNotFollow)
+    → OfRow (if holds then GivesEvents time t else IsFault t.marks.has_stop) b.recording
+    (if holds then step else refuse b t)
 tested b time t true step told = told
-tested b time t false step told = faulted b DoesNotFollow
+tested b time t false step told = faulted_of b t.marks.has_stop DoesNotFollow
 
 skipped : (b : Beagle) (time : List ℕ) (t : Transaction) (ends : Bool)
     → GivenText b.recording time t
@@ -72,7 +78,7 @@ skipped b time t true = Nothing refl
 skipped b time t false = Nothing refl
 
 out : (b : Beagle) (time : List ℕ) (t : Transaction) (skips : Bool)
-    → OfRow (if skips || t.marks.has_start then GivesEvents time t else IsFault) b.recording
+    → OfRow (if skips || t.marks.has_start then GivesEvents time t else IsFault t.marks.has_stop) b.recording
     (if skips then skip b t else begin b time t)
 out b time t true = skipped b time t t.marks.has_stop
 out b time t false =
@@ -81,7 +87,7 @@ out b time t false =
     (begins b time t (nat_lt most_wire (length now.recording.wire.items + length (wire_of t))) t.marks.has_stop)
 
 followed : (b : Beagle) (time : List ℕ) (t : Transaction) (packet : Option PacketLines)
-    → OfRow (if may_follow packet b.recording t then GivesEvents time t else IsFault) b.recording
+    → OfRow (if may_follow packet b.recording t then GivesEvents time t else IsFault t.marks.has_stop) b.recording
     (follow b time t packet)
 followed b time t (Some lines) =
     let now = record b { recording = given b.recording } in
@@ -90,21 +96,24 @@ followed b time t (Some lines) =
 followed b time t None = out b time t b.recording.is_skipping
 
 -- what is a fault where a test holds
-unless : (b : Beagle) (holds : Bool) (reason : Reason) (c : RowClass) (step : Step Beagle) → OfRow c b.recording step
-    → OfRow (if holds then IsFault else c) b.recording (if holds then fault b reason else step)
-unless b true reason c step does = faulted b reason
-unless b false reason c step does = does
+unless : (b : Beagle) (ends holds : Bool) (reason : Reason) (c : RowClass) (step : Step Beagle)
+    → OfRow c b.recording step
+    → OfRow (if holds then IsFault ends else c) b.recording (if holds then fault_of b ends reason else step)
+unless b ends true reason c step does = faulted_of b ends reason
+unless b ends false reason c step does = does
 
 of_transaction : (b : Beagle) (columns : Columns) (r : Record) (t : Transaction)
     → OfRow (class_of_transaction b.recording columns r t) b.recording (take_transaction b columns r t)
 of_transaction b columns r t =
     let time = start_time columns r in
-    let follows = if may_follow b.recording.packet b.recording t then GivesEvents time t else IsFault in
+    let ends = ends_packet columns r in
+    let follows =
+    if may_follow b.recording.packet b.recording t then GivesEvents time t else IsFault t.marks.has_stop in
     let range = is_out_of_range columns r t in
     let step = follow b time t b.recording.packet in
-    unless b (is_marked (field_if columns.error r)) IsMarked (if range then IsFault else follows)
-    (if range then fault b MakesNoSense else step)
-    (unless b range MakesNoSense follows step (followed b time t b.recording.packet))
+    unless b ends (is_marked (field_if columns.error r)) IsMarked (if range then IsFault ends else follows)
+    (if range then fault_of b ends MakesNoSense else step)
+    (unless b ends range MakesNoSense follows step (followed b time t b.recording.packet))
 
 -- ---- rows
 
@@ -112,19 +121,19 @@ of_said : (b : Beagle) (columns : Columns) (r : Record) (says : Says)
     → OfRow (class_of_said b.recording columns r says) b.recording (take_said b columns r says)
 of_said b columns r (OfTransaction t) = of_transaction b columns r t
 of_said b columns r OfCapture = anew b
-of_said b columns r OfOther = faulted b MakesNoSense
+of_said b columns r OfOther = faulted_of b (ends_packet columns r) MakesNoSense
 
 of_next : (b : Beagle) (columns : Columns) (r : Record) (next : Bool) (says : Option Says)
     → OfRow (class_of_next b.recording columns r next says) b.recording (take_next b columns r next says)
 of_next b columns r true (Some says) = of_said b columns r says
-of_next b columns r false (Some says) = faulted b RowsAreMissing
-of_next b columns r next None = faulted b MakesNoSense
+of_next b columns r false (Some says) = faulted_of b (ends_packet columns r) RowsAreMissing
+of_next b columns r next None = faulted_of b (ends_packet columns r) MakesNoSense
 
 of_numbered : (b : Beagle) (columns : Columns) (r : Record) (index : Option ℕ)
     → OfRow (class_of_numbered b columns r index) b.recording (take_numbered b columns r index)
 of_numbered b columns r (Some index) =
     of_next (numbered b (Some index)) columns r (is_next b.index index) (says_of columns r)
-of_numbered b columns r None = faulted (numbered b None) MakesNoSense
+of_numbered b columns r None = faulted_of (numbered b None) (ends_packet columns r) MakesNoSense
 
 of_row : (b : Beagle) (columns : Option Columns) (r : Record)
     → OfRow (class_under b columns r) b.recording (take_under b columns r)
@@ -136,7 +145,7 @@ of_row b None r = faulted b MakesNoSense
 does : (c : RowClass) (b : Beagle) (step : Step Beagle) → OfRow c b.recording step → DoesAs c b step
 does (GivesEvents time t) b step of_row = of_row
 does SaysNothing b step of_row = inr of_row
-does IsFault b step of_row = of_row
+does (IsFault ends) b step of_row = of_row
 
 other : (b : Beagle) (line : List ℕ) (remark : Bool)
     → DoesAs (if remark then SaysNothing else class_under b b.columns (record_of line)) b

@@ -4,7 +4,7 @@ use Rattle.std.proofs.Common.{length, refl, sym, ◌∙◌, ap, inl, inr, if◌t
 use Rattle.std.proofs.lemmas.Bool.Decides.{eqb_tells}
 use Rattle.std.specs.Option.{MatchOption}
 use Rattle.pmb_beagle.specs.Bytes.{byte_in, bytes_of}
-use Rattle.pmb_beagle.specs.Export.{Transaction, marks_of, transaction_of, without_unit}
+use Rattle.pmb_beagle.specs.Export.{Transaction, ends_with, marks_of, transaction_of, without_unit}
 use Rattle.pmb_beagle.specs.declared.columns.Columns.{Columns}
 use Rattle.pmb_beagle.specs.declared.transaction.Marks.{Marks}
 use Rattle.pmb_csv.specs.Columns.{◌>>=◌, count_of, has_fields, has_quote, value}
@@ -32,6 +32,13 @@ counted r found count is = count_some r.is_whole (length r.fields) found count i
 
 pub not_counted : (r : Record) (count : ℕ) → None ≡ count_of r → false ≡ has_fields count r
 not_counted r count is = count_none r.is_whole (length r.fields) count is
+
+-- ---- the last byte
+
+-- whether a text ends with a byte, where one may stand in front of it
+abbrev pub last_with : ℕ → Bool → List ℕ → Bool
+last_with last before [] = before
+last_with last before (byte ∷ text) = ends_with last (byte ∷ text)
 
 -- ---- a transaction whose bytes can't be read
 

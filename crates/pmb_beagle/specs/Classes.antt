@@ -1,9 +1,9 @@
 -- The classes of the lines of a recording, and what becomes of a line of each.
-use Rattle.std.specs.Prelude.{◌≡◌, ◌⊎◌, ℕ, ◌<◌, ◌==◌, ◌||◌, true, false, Bool, Option, Some, None, List, [], ◌∷◌, ◌++◌}
+use Rattle.std.specs.Prelude.{◌≡◌, ◌⊎◌, ℕ, ◌<◌, ◌==◌, ◌||◌, not, false, Bool, Option, Some, None, List, [], ◌∷◌, ◌++◌}
 use Rattle.std.specs.Prelude.{if◌then◌else◌}
 use Rattle.pmb_beagle.specs.Columns.{heading_of, is_remark}
-use Rattle.pmb_beagle.specs.Export.{Says, OfCapture, OfOther, OfTransaction, Transaction, field_if, index_of}
-use Rattle.pmb_beagle.specs.Export.{is_marked, is_next, is_out_of_range, says_of, start_time}
+use Rattle.pmb_beagle.specs.Export.{Says, OfCapture, OfOther, OfTransaction, Transaction, ends_packet, field_if}
+use Rattle.pmb_beagle.specs.Export.{index_of, is_marked, is_next, is_out_of_range, says_of, start_time}
 use Rattle.pmb_beagle.specs.Packets.{take_line, wire_of}
 use Rattle.pmb_beagle.specs.declared.beagle.Beagle.{Beagle}
 use Rattle.pmb_beagle.specs.declared.columns.Columns.{Columns}
@@ -21,8 +21,8 @@ pub data RowClass : Type 0 where
   GivesEvents : List ℕ → Transaction → RowClass
   -- It says nothing of the bus.
   SaysNothing : RowClass
-  -- It can't be read, is marked, out of range, or contradicts lines before it.
-  IsFault : RowClass
+  -- It can't be read, is marked, out of range, or contradicts lines before it; and it ends a packet, or does not.
+  IsFault : Bool → RowClass
 
 -- ---- the class of a line
 
@@ -33,30 +33,31 @@ may_follow None now t = now.is_skipping || t.marks.has_start
 
 abbrev pub class_of_transaction : Recording → Columns → Record → Transaction → RowClass
 class_of_transaction now columns r t =
-    if is_marked (field_if columns.error r) then IsFault else
-    if is_out_of_range columns r t then IsFault else
-    if may_follow now.packet now t then GivesEvents (start_time columns r) t else IsFault
+    if is_marked (field_if columns.error r) then IsFault (ends_packet columns r) else
+    if is_out_of_range columns r t then IsFault (ends_packet columns r) else
+    if may_follow now.packet now t then GivesEvents (start_time columns r) t else IsFault t.marks.has_stop
 
 -- a row that has its form, where no rows are missing
 abbrev pub class_of_said : Recording → Columns → Record → Says → RowClass
 class_of_said now columns r (OfTransaction t) = class_of_transaction now columns r t
 class_of_said now columns r OfCapture = SaysNothing
-class_of_said now columns r OfOther = IsFault
+class_of_said now columns r OfOther = IsFault (ends_packet columns r)
 
 -- a row with a number, by whether that is one more than the last
 abbrev pub class_of_next : Recording → Columns → Record → Bool → Option Says → RowClass
-class_of_next now columns r next (Some says) = if next then class_of_said now columns r says else IsFault
-class_of_next now columns r next None = IsFault
+class_of_next now columns r next (Some says) =
+    if next then class_of_said now columns r says else IsFault (ends_packet columns r)
+class_of_next now columns r next None = IsFault (ends_packet columns r)
 
 abbrev pub class_of_numbered : Beagle → Columns → Record → Option ℕ → RowClass
 class_of_numbered b columns r (Some index) =
     class_of_next b.recording columns r (is_next b.index index) (says_of columns r)
-class_of_numbered b columns r None = IsFault
+class_of_numbered b columns r None = IsFault (ends_packet columns r)
 
 -- a row, where its columns are known
 abbrev pub class_under : Beagle → Option Columns → Record → RowClass
 class_under b (Some columns) r = class_of_numbered b columns r (index_of columns r)
-class_under b None r = IsFault
+class_under b None r = IsFault false
 
 abbrev pub class_of_other : Beagle → List ℕ → RowClass
 class_of_other b line = if is_remark line then SaysNothing else class_under b b.columns (record_of line)
@@ -70,7 +71,7 @@ class_by b None line = class_of_other b line
 abbrev pub class_of : Beagle → Option (List ℕ) → RowClass
 class_of b (Some []) = SaysNothing
 class_of b (Some (byte ∷ line)) = class_by b (heading_of (byte ∷ line)) (byte ∷ line)
-class_of b None = IsFault
+class_of b None = IsFault false
 
 -- ---- what becomes of it
 
@@ -90,19 +91,19 @@ pub record BeginsAnew (now : Recording) (step : Step Beagle) : Type 0 where
   pub skips : step.now.recording.is_skipping ≡ false
 
 -- A fault: it is told with its line and a reason, after the packet that it cuts, and counted. No packet is under way
--- after it, and lines are skipped.
-pub record Faulted (now : Recording) (step : Step Beagle) : Type 0 where
+-- after it, and lines are skipped unless it ends a packet.
+pub record Faulted (now : Recording) (ends : Bool) (step : Step Beagle) : Type 0 where
   pub reason : Reason
   pub told : step.text ≡ cut_text now.packet ++ at_line now.line (reason_text reason)
   pub is_counted : 0 < step.now.recording.troubles
   pub is_gone : step.now.recording.packet ≡ None
-  pub skips : step.now.recording.is_skipping ≡ true
+  pub skips : step.now.recording.is_skipping ≡ not ends
 
 -- A step does what a class says. A line that says nothing changes nothing, or the recording begins anew.
 abbrev pub DoesAs : RowClass → Beagle → Step Beagle → Type 0
 DoesAs (GivesEvents time t) b step = GivenText b.recording time t step.text
 DoesAs SaysNothing b step = (step ≡ quietly b) ⊎ BeginsAnew b.recording step
-DoesAs IsFault b step = Faulted b.recording step
+DoesAs (IsFault ends) b step = Faulted b.recording ends step
 
 -- the machine at its next line
 abbrev pub at_next_line : Beagle → Beagle

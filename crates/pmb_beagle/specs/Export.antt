@@ -1,12 +1,12 @@
 -- The rows of an export of Data Center, and what they say.
-use Rattle.std.specs.Prelude.{ℕ, ◌+◌, ◌==◌, ◌||◌, not, true, false, Bool, Option, Some, None, is_some, nat_lt}
-use Rattle.std.specs.Prelude.{if◌then◌else◌, List, [], ◌∷◌, codes, length}
+use Rattle.std.specs.Prelude.{ℕ, ◌+◌, ◌==◌, ◌&&◌, ◌||◌, not, true, false, Bool, Option, Some, None, is_some, nat_lt}
+use Rattle.std.specs.Prelude.{if◌then◌else◌, List, [], ◌∷◌, codes, length, slice_index}
 use Rattle.std.specs.Str.{bytes_eq}
 use Rattle.pmb_beagle.specs.Bytes.{byte_in, bytes_of}
 use Rattle.pmb_beagle.specs.Time.{time_of}
 use Rattle.pmb_beagle.specs.declared.columns.Columns.{Columns}
 use Rattle.pmb_beagle.specs.declared.transaction.Marks.{Marks}
-use Rattle.pmb_csv.specs.Columns.{◌>>=◌, field, has_fields, or_none, value}
+use Rattle.pmb_csv.specs.Columns.{◌>>=◌, field, has_fields, or_none, plain_of, value}
 use Rattle.pmb_csv.specs.Fields.{Record}
 use Rattle.pmb_recording.specs.declared.wire_byte.WireByte.{WireByte}
 use Rattle.pmb_words.specs.Numbers.{decimal_of}
@@ -22,6 +22,20 @@ field_if None r = None
 -- as many fields as columns
 abbrev pub is_row : Columns → Record → Bool
 is_row columns r = has_fields columns.count r
+
+-- whether a text ends with a byte
+abbrev pub ends_with : ℕ → List ℕ → Bool
+ends_with last [] = false
+ends_with last (byte ∷ []) = byte == last
+ends_with last (byte ∷ next ∷ text) = ends_with last (next ∷ text)
+
+abbrev pub ends_with_if : ℕ → Option (List ℕ) → Bool
+ends_with_if last (Some text) = ends_with last text
+ends_with_if last None = false
+
+-- A row ends a packet where its marks end in `P` (and have no quote), whatever else it has.
+abbrev pub ends_packet : Columns → Record → Bool
+ends_packet columns r = is_row columns r && ends_with_if (slice_index (codes "P") 0) (plain_of (value columns.marks r))
 
 -- its number, where it can be read
 abbrev pub index_of : Columns → Record → Option ℕ

@@ -2,15 +2,15 @@
 use Rattle.std.specs.Prelude.{ℕ, ◌+◌, ◌*◌, ◌==◌, true, false, Bool, Option, Some, None, nat_lt, if◌then◌else◌, List}
 use Rattle.std.specs.Prelude.{[], ◌∷◌, ◌++◌, length}
 use Rattle.pmb_beagle.specs.Columns.{heading_of, is_remark}
-use Rattle.pmb_beagle.specs.Export.{Says, OfCapture, OfTransaction, OfOther, Transaction, field_if, index_of}
-use Rattle.pmb_beagle.specs.Export.{is_marked, is_next, is_out_of_range, says_of, start_time}
+use Rattle.pmb_beagle.specs.Export.{Says, OfCapture, OfTransaction, OfOther, Transaction, ends_packet, field_if}
+use Rattle.pmb_beagle.specs.Export.{index_of, is_marked, is_next, is_out_of_range, says_of, start_time}
 use Rattle.pmb_beagle.specs.declared.beagle.Beagle.{Beagle}
 use Rattle.pmb_beagle.specs.declared.columns.Columns.{Columns}
 use Rattle.pmb_csv.specs.Fields.{Record, record_of}
 use Rattle.pmb_io.specs.Lines.{TextLine}
 use Rattle.pmb_recording.specs.Content.{content}
-use Rattle.pmb_recording.specs.Recording.{Step, at_end, at_fault, at_heading, at_packet, at_too_long, begun, fresh}
-use Rattle.pmb_recording.specs.Recording.{given, next_line, quietly, skipped}
+use Rattle.pmb_recording.specs.Recording.{Step, at_end, at_fault, at_fault_ending, at_heading, at_packet, at_too_long}
+use Rattle.pmb_recording.specs.Recording.{begun, fresh, given, next_line, quietly, skipped}
 use Rattle.pmb_recording.specs.Told.{Reason, DoesNotFollow, IsMarked, MakesNoSense, RowsAreMissing}
 use Rattle.pmb_recording.specs.Wire.{bit_of, most_wire}
 use Rattle.pmb_recording.specs.declared.recording.PacketLines.{PacketLines}
@@ -27,6 +27,10 @@ on b step = record { now = record b { recording = step.now }; text = step.text }
 
 abbrev pub fault : Beagle → Reason → Step Beagle
 fault b reason = on b (at_fault b.recording reason)
+
+-- A fault of a row. Reading begins behind one that ends a packet.
+abbrev pub fault_of : Beagle → Bool → Reason → Step Beagle
+fault_of b ends reason = on b (at_fault_ending b.recording reason ends)
 
 -- ---- packets
 
@@ -51,15 +55,19 @@ add b t =
     on b (at_too_long b.recording t.marks.has_stop)
     else end_if t.marks.has_stop (with_bytes b (wire_of t))
 
+-- a transaction that does not follow
+abbrev pub refuse : Beagle → Transaction → Step Beagle
+refuse b t = fault_of b t.marks.has_stop DoesNotFollow
+
 -- A transaction goes on with the packet under way by a repeated START.
 abbrev pub inside : Beagle → Transaction → Step Beagle
 inside b t =
-    if t.marks.has_start then add (record b { recording = given b.recording }) t else fault b DoesNotFollow
+    if t.marks.has_start then add (record b { recording = given b.recording }) t else refuse b t
 
 -- Where no packet is under way it begins one.
 abbrev pub begin : Beagle → List ℕ → Transaction → Step Beagle
 begin b time t =
-    if t.marks.has_start then add (record b { recording = begun b.recording time }) t else fault b DoesNotFollow
+    if t.marks.has_start then add (record b { recording = begun b.recording time }) t else refuse b t
 
 -- Behind a fault all transactions are skipped up to one with STOP.
 abbrev pub skip : Beagle → Transaction → Step Beagle
@@ -78,20 +86,21 @@ follow b time t None = outside b time t
 
 abbrev pub take_transaction : Beagle → Columns → Record → Transaction → Step Beagle
 take_transaction b columns r t =
-    if is_marked (field_if columns.error r) then fault b IsMarked else
-    if is_out_of_range columns r t then fault b MakesNoSense else
+    if is_marked (field_if columns.error r) then fault_of b (ends_packet columns r) IsMarked else
+    if is_out_of_range columns r t then fault_of b (ends_packet columns r) MakesNoSense else
     follow b (start_time columns r) t b.recording.packet
 
 -- a row that has its form, where no rows are missing
 abbrev pub take_said : Beagle → Columns → Record → Says → Step Beagle
 take_said b columns r (OfTransaction t) = take_transaction b columns r t
 take_said b columns r OfCapture = on b (at_heading b.recording)
-take_said b columns r OfOther = fault b MakesNoSense
+take_said b columns r OfOther = fault_of b (ends_packet columns r) MakesNoSense
 
 -- a row with a number, by whether that is one more than the last
 abbrev pub take_next : Beagle → Columns → Record → Bool → Option Says → Step Beagle
-take_next b columns r next (Some says) = if next then take_said b columns r says else fault b RowsAreMissing
-take_next b columns r next None = fault b MakesNoSense
+take_next b columns r next (Some says) =
+    if next then take_said b columns r says else fault_of b (ends_packet columns r) RowsAreMissing
+take_next b columns r next None = fault_of b (ends_packet columns r) MakesNoSense
 
 -- The number of each row is kept, so that it is that of the row in front for the next one.
 abbrev pub numbered : Beagle → Option ℕ → Beagle
@@ -100,7 +109,7 @@ numbered b index = record b { index = index }
 abbrev pub take_numbered : Beagle → Columns → Record → Option ℕ → Step Beagle
 take_numbered b columns r (Some index) =
     take_next (numbered b (Some index)) columns r (is_next b.index index) (says_of columns r)
-take_numbered b columns r None = fault (numbered b None) MakesNoSense
+take_numbered b columns r None = fault_of (numbered b None) (ends_packet columns r) MakesNoSense
 
 abbrev pub take_row : Beagle → Columns → Record → Step Beagle
 take_row b columns r = take_numbered b columns r (index_of columns r)

@@ -1,8 +1,8 @@
 //! Packets, put together from the rows of an export of Data Center.
 
 ghost use Rattle.std.specs.Prelude.{◌≡◌, ◌≤◌, None, OnOk, length, option_copied};
-ghost use Rattle.pmb_beagle.specs.Export.{is_next as next_number};
-ghost use Rattle.pmb_beagle.specs.Packets.{add as with_transaction, begin as begun_by, end_if, fault as at_fault_of, follow, inside, on, outside, start};
+ghost use Rattle.pmb_beagle.specs.Export.{ends_packet, is_next as next_number};
+ghost use Rattle.pmb_beagle.specs.Packets.{add as with_transaction, begin as begun_by, end_if, fault as at_fault_of, fault_of as fault_of_row, follow, inside, on, outside, refuse as refused, start};
 ghost use Rattle.pmb_beagle.specs.Packets.{take_content as content_step, take_end, take_heading as heading_step, take_line, take_other as other_step};
 ghost use Rattle.pmb_beagle.specs.Packets.{take_row as row_step, take_said as said_step, take_text as text_step, take_transaction as transaction_step};
 ghost use Rattle.pmb_beagle.specs.Views.{IsCounted, SaysCounted, says_from, transaction_from};
@@ -58,6 +58,38 @@ impl Beagle {
         ensures failed { WriterTells (W.told writer.old) (W.told writer.new) result }
     {
         self.recording.take_fault(fault, waiting, writer)
+    }
+
+    /// Takes a fault of a row, which may end a packet.
+    fn fault_of<W: Sink>(
+        &mut self,
+        row: &Row<'_>,
+        fault: Fault<'_>,
+        waiting: &mut Waiting,
+        writer: &mut W,
+    ) -> Result<(), RunFault>
+        ensures now { self.new ≡ (fault_of_row self.old (ends_packet row.now.columns (record_of row.now.line.now)) (reason_of fault.entry)).now }
+        ensures puts { OnOk result (PutsText (W.told writer.old).held waiting.old.items (W.told writer.new).held waiting.new.items (fault_of_row self.old (ends_packet row.now.columns (record_of row.now.line.now)) (reason_of fault.entry)).text) }
+        ensures failed { WriterTells (W.told writer.old) (W.told writer.new) result }
+    {
+        let ends = row.ends_packet();
+        self.recording
+            .take_fault_ending(fault, ends, waiting, writer)
+    }
+
+    /// Takes a transaction that does not follow.
+    fn refuse<W: Sink>(
+        &mut self,
+        t: &Transaction<'_>,
+        waiting: &mut Waiting,
+        writer: &mut W,
+    ) -> Result<(), RunFault>
+        ensures now { self.new ≡ (refused self.old (transaction_from t.now)).now }
+        ensures puts { OnOk result (PutsText (W.told writer.old).held waiting.old.items (W.told writer.new).held waiting.new.items (refused self.old (transaction_from t.now)).text) }
+        ensures failed { WriterTells (W.told writer.old) (W.told writer.new) result }
+    {
+        self.recording
+            .take_fault_ending(Fault::DoesNotFollow, t.marks.has_stop, waiting, writer)
     }
 
     /// Takes the next line.
@@ -173,15 +205,15 @@ impl Beagle {
         let before = self.index;
         self.index = row.index();
         let Some(index) = self.index else {
-            return self.fault(Fault::MakesNoSense, waiting, writer);
+            return self.fault_of(row, Fault::MakesNoSense, waiting, writer);
         };
         let Some(says) = row.says() else {
-            return self.fault(Fault::MakesNoSense, waiting, writer);
+            return self.fault_of(row, Fault::MakesNoSense, waiting, writer);
         };
         if is_next(before, index) {
             self.take_said(row, &says, waiting, writer)
         } else {
-            self.fault(Fault::RowsAreMissing, waiting, writer)
+            self.fault_of(row, Fault::RowsAreMissing, waiting, writer)
         }
     }
 
@@ -201,7 +233,7 @@ impl Beagle {
         match says {
             Says::OfTransaction(t) => self.take_transaction(row, t, waiting, writer),
             Says::OfCapture => self.recording.take_heading(waiting, writer),
-            Says::OfOther => self.fault(Fault::MakesNoSense, waiting, writer),
+            Says::OfOther => self.fault_of(row, Fault::MakesNoSense, waiting, writer),
         }
     }
 
@@ -219,10 +251,10 @@ impl Beagle {
         ensures failed { WriterTells (W.told writer.old) (W.told writer.new) result }
     {
         if row.is_marked() {
-            return self.fault(Fault::IsMarked, waiting, writer);
+            return self.fault_of(row, Fault::IsMarked, waiting, writer);
         }
         if t.address.byte > 0x7f || !row.has_length(t.length) {
-            return self.fault(Fault::MakesNoSense, waiting, writer);
+            return self.fault_of(row, Fault::MakesNoSense, waiting, writer);
         }
         self.follow(row.time().as_slice(), t, waiting, writer)
     }
@@ -262,7 +294,7 @@ impl Beagle {
         ensures failed { WriterTells (W.told writer.old) (W.told writer.new) result }
     {
         if !t.marks.has_start {
-            return self.fault(Fault::DoesNotFollow, waiting, writer);
+            return self.refuse(t, waiting, writer);
         }
         self.recording.give();
         self.add(t, waiting, writer)
@@ -312,7 +344,7 @@ impl Beagle {
     {
         texts_add_up();
         if !t.marks.has_start {
-            return self.fault(Fault::DoesNotFollow, waiting, writer);
+            return self.refuse(t, waiting, writer);
         }
         self.recording.begin(time, b"", waiting, writer)?;
         self.add(t, waiting, writer)

@@ -1,7 +1,7 @@
 //! A row of an export.
 
-ghost use Rattle.std.specs.Prelude.{◌≡◌, false, is_some};
-ghost use Rattle.pmb_beagle.specs.Export.{is_capture, is_count, without_unit};
+ghost use Rattle.std.specs.Prelude.{◌≡◌, false, is_some, option_copied};
+ghost use Rattle.pmb_beagle.specs.Export.{ends_with, ends_with_if, is_capture, is_count, without_unit};
 ghost use Rattle.pmb_csv.specs.Columns.{has_quote, value};
 ghost use Rattle.pmb_csv.specs.Fields.{record_of};
 ghost use Rattle.pmb_csv.specs.Left.{text_of};
@@ -35,7 +35,7 @@ pub(crate) struct Row<'a> {
 impl<'a> Row<'a> {
     ghost use Rattle.std.specs.Prelude.{◌≡◌, IfSome, option_map};
     ghost use Rattle.pmb_beagle.specs.Bytes.{byte_in};
-    ghost use Rattle.pmb_beagle.specs.Export.{field_if, has_length, index_of, is_marked, is_row, marks_of, says_of, start_time, transaction_of};
+    ghost use Rattle.pmb_beagle.specs.Export.{ends_packet, field_if, has_length, index_of, is_marked, is_row, marks_of, says_of, start_time, transaction_of};
     ghost use Rattle.pmb_beagle.specs.Views.{IsCounted, SaysCounted, says_from, transaction_from};
     ghost use Rattle.pmb_csv.specs.Columns.{value};
     ghost use Rattle.pmb_csv.specs.Fields.{record_of};
@@ -48,6 +48,13 @@ impl<'a> Row<'a> {
             Some(count) => count == self.columns.count,
             None => false,
         }
+    }
+
+    /// Whether it ends a packet, whatever else it has: its marks end in `P`.
+    pub(crate) fn ends_packet(&self) -> bool
+        ensures { result ≡ ends_packet self.now.columns (record_of self.now.line.now) }
+    {
+        self.is_whole() && ends_in_stop(value_at(self.line, self.columns.marks))
     }
 
     /// Its number, where it has all columns.
@@ -166,6 +173,29 @@ fn number_at(line: &[u8], place: usize) -> Option<u64>
         Some(text) => decimal(text),
         None => None,
     }
+}
+
+/// Whether marks end in `P`.
+fn ends_in_stop(marks: Option<&[u8]>) -> bool
+    ensures { result ≡ ends_with_if 80 (option_copied marks.entry) }
+{
+    match marks {
+        Some(text) => last_is(b'P', text),
+        None => false,
+    }
+}
+
+/// Whether a text ends with a byte.
+fn last_is(last: u8, text: &[u8]) -> bool
+    ensures { result ≡ ends_with last text.now }
+{
+    let mut is_last = false;
+    let mut left = text;
+    while let [byte, rest @ ..] = left {
+        is_last = *byte == last;
+        left = rest;
+    }
+    is_last
 }
 
 /// `Capture started`, `Capture stopped`, whatever follows.

@@ -15,6 +15,7 @@ use pmb_table::BusProfile;
 /// # Errors
 ///
 /// `Write` where the writer failed.
+#[inline(never)]
 pub(crate) fn describe_bus<R: Source, W: Sink>(
     bus: &BusProfile,
     _first: &[u8],

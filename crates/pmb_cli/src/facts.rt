@@ -21,6 +21,7 @@ use pmb_telling::tell;
 /// # Errors
 ///
 /// Those of [`write_facts`].
+#[inline(never)]
 pub(crate) fn write_json<R: Source, W: Sink>(
     chosen: &FactArguments,
     bus: &BusProfile,
@@ -39,6 +40,7 @@ pub(crate) fn write_json<R: Source, W: Sink>(
 /// # Errors
 ///
 /// Those of [`write_facts`].
+#[inline(never)]
 pub(crate) fn write_log<R: Source, W: Sink>(
     chosen: &FactArguments,
     bus: &BusProfile,

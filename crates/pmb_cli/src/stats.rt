@@ -23,6 +23,7 @@ use std::alloc::Global;
 ///
 /// `Memory` where there was none for the sums of the profile's devices: nothing was read or written. Else
 /// those of [`write_table`].
+#[inline(never)]
 pub(crate) fn write_stats<R: Source, W: Sink>(
     chosen: &StatsArguments,
     alloc: Global,

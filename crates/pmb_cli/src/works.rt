@@ -6,10 +6,13 @@
 
 ghost use Rattle.std.specs.Prelude.{◌≡◌, true};
 ghost use Rattle.pmb_cli.specs.ProfileFault.{IsReported};
+ghost use Rattle.pmb_build.specs.Lines.{building};
+ghost use Rattle.pmb_capture.specs.Check.{checking};
+ghost use Rattle.pmb_capture.specs.Show.{showing};
 ghost use Rattle.pmb_io.specs.Runs.{AsTool, Ran};
 ghost use Rattle.pmb_cli.specs.Tasks.{DidTask};
 ghost use Rattle.pmb_cli.specs.Works.{takes_memory, working};
-ghost use Rattle.pmb_run.specs.Lines.{OrNoMemory};
+ghost use Rattle.pmb_run.specs.Lines.{OrNoMemory, running};
 ghost use Rattle.pmb_args.specs.Asked.{UnderProfile, wanted_of};
 ghost use Rattle.pmb_args.specs.declared.profile_place.ProfilePlace.TheVariants.{Front, Sample};
 
@@ -24,7 +27,7 @@ use pmb_io::{Empty, Sink, Source, Tally, ToolFault};
 use pmb_preamble::laws::one_front;
 use pmb_preamble::{front, sample_profile};
 use pmb_run::run;
-use pmb_table::{BusProfile, ProfileFault, SAMPLE};
+use pmb_table::{BusProfile, Profile, ProfileFault, SAMPLE};
 use std::alloc::Global;
 
 /// Does a work on what the reader gives under the sample profile, and returns the exit status.
@@ -76,6 +79,10 @@ pub(crate) fn run_under_front<R: Source, W: Sink, E: Sink>(
 /// `Read` where the reader failed, `Write` where the writer did. `TooManyReads` where 2^32 reads gave
 /// bytes and the reader had not ended. `Memory` where there was none for the devices of `run` or the
 /// sums of `stats`.
+//
+// Each work has a frame of its own on the stack, and so has this function, which is called for two sorts
+// of readers. In one function the compiler would add up what they take.
+#[inline(never)]
 fn do_work<R: Source, W: Sink>(
     work: &Subcommand,
     alloc: Global,
@@ -90,15 +97,65 @@ fn do_work<R: Source, W: Sink>(
 {
     let profile = bus.profile();
     match work {
-        Subcommand::Show => show(profile, first, reader, out),
-        Subcommand::Check => check_capture(profile, first, reader, out),
+        Subcommand::Show => show_apart(profile, first, reader, out),
+        Subcommand::Check => check_apart(profile, first, reader, out),
         Subcommand::Json(chosen) => write_json(chosen, bus, first, reader, out),
         Subcommand::Log(chosen) => write_log(chosen, bus, first, reader, out),
         Subcommand::Stats(chosen) => write_stats(chosen, alloc, bus, first, reader, out),
-        Subcommand::Build => build(profile, first, reader, out),
-        Subcommand::Run => run(alloc, profile, first, reader, out),
+        Subcommand::Build => build_apart(profile, first, reader, out),
+        Subcommand::Run => run_apart(alloc, profile, first, reader, out),
         Subcommand::Profile => describe_bus(bus, first, reader, out),
     }
+}
+
+#[inline(never)]
+fn show_apart<R: Source, W: Sink>(
+    profile: &Profile,
+    first: &[u8],
+    reader: &mut R,
+    out: &mut W,
+) -> Result<Tally, ToolFault>
+    ensures { AsTool (Ran R.told W.told (showing profile.now) first.now (reader.old, out.old) (reader.new, out.new)) result }
+{
+    show(profile, first, reader, out)
+}
+
+#[inline(never)]
+fn check_apart<R: Source, W: Sink>(
+    profile: &Profile,
+    first: &[u8],
+    reader: &mut R,
+    out: &mut W,
+) -> Result<Tally, ToolFault>
+    ensures { AsTool (Ran R.told W.told (checking profile.now) first.now (reader.old, out.old) (reader.new, out.new)) result }
+{
+    check_capture(profile, first, reader, out)
+}
+
+#[inline(never)]
+fn build_apart<R: Source, W: Sink>(
+    profile: &Profile,
+    first: &[u8],
+    reader: &mut R,
+    out: &mut W,
+) -> Result<Tally, ToolFault>
+    ensures { AsTool (Ran R.told W.told (building profile.now) first.now (reader.old, out.old) (reader.new, out.new)) result }
+{
+    build(profile, first, reader, out)
+}
+
+#[inline(never)]
+fn run_apart<R: Source, W: Sink>(
+    alloc: Global,
+    profile: &Profile,
+    first: &[u8],
+    reader: &mut R,
+    out: &mut W,
+) -> Result<Tally, ToolFault>
+    ensures { OrNoMemory ((reader.new ≡ reader.old) × (out.new ≡ out.old))
+        (AsTool (Ran R.told W.told (running profile.now) first.now (reader.old, out.old) (reader.new, out.new))) result }
+{
+    run(alloc, profile, first, reader, out)
 }
 
 /// Reports a fault of a profile, with hints if `profile` was asked for, and returns the exit

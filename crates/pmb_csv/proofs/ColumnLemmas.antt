@@ -6,12 +6,12 @@ use Rattle.std.proofs.Common.{None, List, []}
 use Rattle.std.proofs.Common.{◌∷◌, length, refl, sym, ◌∙◌, ap, arith, if◌then◌else◌, ne_eqb, nat_lt}
 use Rattle.std.proofs.lemmas.Bool.Decides.{nat_tests}
 use Rattle.std.specs.Str.{bytes_eq}
-use Rattle.pmb_csv.specs.Columns.{column_of, field, is_last_of, is_last_place, named, needed_place, optional_place}
+use Rattle.pmb_csv.specs.Columns.{column_of, field, named, needed_place, optional_place}
 use Rattle.pmb_csv.specs.Columns.{place_of}
 use Rattle.pmb_csv.specs.Columns.{times_named}
 use Rattle.pmb_csv.specs.Fields.{Begins, Closed, Place, Plain, Quoted, Record, behind_empty, comma, fields_from}
 use Rattle.pmb_csv.specs.Fields.{longer, quote}
-use Rattle.pmb_csv.specs.Left.{broken, column_from, column_with, is_end, is_none_left, with_field}
+use Rattle.pmb_csv.specs.Left.{broken, column_from, column_with, with_field}
 use Rattle.pmb_csv.specs.declared.columns.Column.{Column}
 use Rattle.pmb_csv.specs.declared.columns.Column.TheVariants.{Absent, At, Unclear}
 
@@ -21,20 +21,6 @@ pub field_behind : (place : ℕ) (text : List ℕ) (r : Record) → 0 < place
     → field place (with_field text r).fields ≡ field (place - 1) r.fields
 field_behind zero text r some = absurd (omega arith)
 field_behind (suc place) text r some = ap (λ (n : ℕ). field n r.fields) (omega arith)
-
-pub last_behind : (place : ℕ) (text : List ℕ) (r : Record) → 0 < place
-    → is_last_of place (with_field text r) ≡ is_last_of (place - 1) r
-last_behind zero text r some = absurd (omega arith)
-last_behind (suc place) text r some = ap (λ (n : ℕ). is_last_of n r) (omega arith)
-
--- The next one is the last where nothing is left behind it.
-is_last : (whole : Bool) (text : List ℕ) (fields : List (List ℕ))
-    → (whole && is_last_place 0 (text ∷ fields)) ≡ (whole && is_none_left fields)
-is_last whole text [] = refl
-is_last whole text (f ∷ fields) = refl
-
-pub next_last : (text : List ℕ) (r : Record) → is_last_of 0 (with_field text r) ≡ is_end r
-next_last text r = is_last r.is_whole text r.fields
 
 -- ---- how many
 

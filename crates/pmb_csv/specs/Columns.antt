@@ -75,16 +75,6 @@ has_fields count r = r.is_whole && (length r.fields == count)
 abbrev pub count_of : Record → Option ℕ
 count_of r = if r.is_whole then Some (length r.fields) else None
 
--- the last field of a line that can be read
-abbrev pub is_last_place : ℕ → List (List ℕ) → Bool
-is_last_place place [] = false
-is_last_place zero (value ∷ []) = true
-is_last_place zero (value ∷ other ∷ fields) = false
-is_last_place (suc place) (value ∷ fields) = is_last_place place fields
-
-abbrev pub is_last_of : ℕ → Record → Bool
-is_last_of place r = r.is_whole && is_last_place place r.fields
-
 -- ---- quotes in a text
 
 abbrev pub has_quote : List ℕ → Bool

@@ -18,13 +18,6 @@ ended = record { fields = []; is_whole = true }
 abbrev pub broken : Record
 broken = record { fields = []; is_whole = false }
 
-abbrev pub is_none_left : List (List ℕ) → Bool
-is_none_left [] = true
-is_none_left (field ∷ fields) = false
-
-abbrev pub is_end : Record → Bool
-is_end r = r.is_whole && is_none_left r.fields
-
 -- one more field in front
 abbrev pub with_field : List ℕ → Record → Record
 with_field field r = record r { fields = field ∷ r.fields }
@@ -66,9 +59,9 @@ closing_of false at (byte ∷ text) = closing_of (byte == quote) (at + 1) text
 
 -- ---- a call
 
--- The next field is taken, and known to be the last or not. At the end, and at a field that can't be read, nothing is.
+-- The next field is taken. At the end, and at a field that can't be read, nothing is.
 abbrev pub Takes : Record → Next → Record → Type 0
-Takes old (next.Field field) new = (old ≡ with_field (text_of field) new) × (field.is_last ≡ is_end new)
+Takes old (next.Field field) new = old ≡ with_field (text_of field) new
 Takes old next.End new = (old ≡ ended) × (new ≡ ended)
 Takes old next.Broken new = (old ≡ broken) × (new ≡ broken)
 

@@ -1,7 +1,7 @@
 //! Columns and values, by their names and places.
 
-ghost use Rattle.std.specs.Prelude.{◌≡◌, false, IfSome, option_copied, option_map};
-ghost use Rattle.pmb_csv.specs.Columns.{column_of, count_of, field, has_quote, is_last_of, needed_place, optional_place, plain_of};
+ghost use Rattle.std.specs.Prelude.{◌≡◌, false, option_copied, option_map};
+ghost use Rattle.pmb_csv.specs.Columns.{column_of, count_of, field, has_quote, needed_place, optional_place, plain_of};
 ghost use Rattle.pmb_csv.specs.Columns.{value};
 ghost use Rattle.pmb_csv.specs.Fields.{record_of};
 ghost use Rattle.pmb_csv.specs.Left.{text_of};
@@ -96,8 +96,7 @@ pub fn count_fields(line: &[u8]) -> Option<usize>
 
 /// The field of a line at a place, counted from 0.
 pub fn field_at(line: &[u8], place: usize) -> Option<Field<'_>>
-    ensures text { option_map text_of result ≡ field place (record_of line.now).fields }
-    ensures last { IfSome result (λ found. found.is_last ≡ is_last_of place (record_of line.now)) }
+    ensures { option_map text_of result ≡ field place (record_of line.now).fields }
 {
     let mut fields = Fields::of(line);
     let mut left = place;

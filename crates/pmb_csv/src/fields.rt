@@ -13,8 +13,6 @@ pub struct Field<'a> {
     pub raw: &'a [u8],
     /// It stands in quotes.
     pub is_quoted: bool,
-    /// The line ends with it.
-    pub is_last: bool,
 }
 
 impl<'a> Field<'a> {
@@ -98,11 +96,7 @@ impl<'a> Fields<'a> {
             (left self.new) }
     {
         self.rest = rest;
-        Next::Field(Field {
-            raw,
-            is_quoted,
-            is_last: rest.is_none(),
-        })
+        Next::Field(Field { raw, is_quoted })
     }
 }
 

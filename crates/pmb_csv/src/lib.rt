@@ -9,7 +9,7 @@
 //! assert_eq!(rt; name.raw, b"I2C".as_slice());
 //! let Next::Field(note) = fields.next_field() else { return };
 //! assert_eq!(rt; note.raw, b"0x58, ACK".as_slice());
-//! assert!(rt; note.is_last);
+//! assert!(rt; note.is_quoted);
 //! ```
 #![tactic(auto)]
 

@@ -23,10 +23,11 @@ use Rattle.pmb_scan.specs.Scan.{Truncates, end_spans}
 use Rattle.pmb_spans.specs.Spans.{Span, ReadSpan, RefusedSpan, TruncatedSpan, SpansFrom, moved_spans}
 use Rattle.pmb_transaction.specs.Capture.{Viable}
 use Rattle.pmb_transaction.specs.Reading.{RefusalData, TruncatedAt}
-use Rattle.pmb_fact_stream.specs.Before.{Before}
+use Rattle.pmb_fact_stream.specs.Before.{Before, past_of}
 use Rattle.pmb_fact_stream.specs.Choice.{ChoiceData}
 use Rattle.pmb_fact_stream.specs.Spans.{IsNoneOutside, after_either, after_open, after_some, after_spans}
-use Rattle.pmb_fact_stream.specs.Spans.{event_place, event_time, past_in, span_facts}
+use Rattle.pmb_fact_stream.specs.Lost.{lost_in}
+use Rattle.pmb_fact_stream.specs.Spans.{event_place, event_time, span_facts}
 use Rattle.pmb_fact_stream.specs.Others.{is_untold, other_address}
 use Rattle.pmb_fact_stream.proofs.Places.{EachWordHasPlace, stands_behind_all}
 use Rattle.pmb_fact_stream.proofs.Others.{other_told, packet_untold}
@@ -94,7 +95,8 @@ no_end (Passing n) = refl
 abbrev pub facts_at_end : ChoiceData → Before → Reached → List Span → List FactData
 facts_at_end choice b reached last =
     span_facts choice.ignored (event_place b.read b.n reached.text) (event_time b.n reached.text)
-    (b.past ++ past_in reached.spans) (moved_spans b.n (filter (is_untold choice.ignored) last))
+    (lost_in reached.profile b.n reached.events) (b.past ++ past_of reached)
+    (moved_spans b.n (filter (is_untold choice.ignored) last))
 
 -- the fact of an end inside a packet
 end_fact : EachWordHasPlace → (choice : ChoiceData) (b : Before) (reached : Reached)
@@ -102,19 +104,19 @@ end_fact : EachWordHasPlace → (choice : ChoiceData) (b : Before) (reached : Re
     → EndsBetween b.read → Spells reached.text reached.events → reached.standing ≡ Open n front
     → n + length front ≡ length reached.events → time ≡ event_time b.n reached.text (b.n + n)
     → other_address choice.ignored front ≡ None
-    → refusal_fact (b.past ++ past_in reached.spans)
+    → refusal_fact (b.past ++ past_of reached)
     (head_as (capped (b.n + length reached.events)) (end_of_last_word (b.read ++ reached.text)) time) front None
     refusal.reason refusal.expected ∷ []
     ≡ facts_at_end choice b reached (end_spans reached.standing (Some refusal))
 end_fact law choice b reached n front refusal time between spells standing counted timed none =
     let place = event_place b.read b.n reached.text in
     let times = event_time b.n reached.text in
-    let before = b.past ++ past_in reached.spans in
+    let before = b.past ++ past_of reached in
     let at : b.n + length reached.events ≡ (b.n + n) + length front = omega (arith, counted) in
     let one = λ (k : ℕ) (p : Place) (o : Option (List ℕ)). refusal_fact before (head_as (capped k) p o) front None
     refusal.reason refusal.expected ∷ [] in
-    let facts = λ (l : List Span). span_facts choice.ignored place times (b.past ++ past_in reached.spans)
-    (moved_spans b.n l) in
+    let facts = λ (l : List Span). span_facts choice.ignored place times (lost_in reached.profile b.n reached.events)
+    (b.past ++ past_of reached) (moved_spans b.n l) in
     ap (λ (p : Place). one (b.n + length reached.events) p time) (sym
     (stands_behind_all law b.read reached.text b.n reached.events between spells))
     ∙ ap (λ (k : ℕ). one k (place k) time) at
@@ -131,11 +133,11 @@ pub placed_end_fact : EachWordHasPlace → (choice : ChoiceData) (b : Before) (r
     → EndsBetween b.read → Spells reached.text reached.events → reached.standing ≡ Open n front
     → n + length front ≡ length reached.events → place ≡ end_of_last_word (b.read ++ reached.text)
     → time ≡ event_time b.n reached.text (b.n + n) → other_address choice.ignored front ≡ None
-    → refusal_fact (b.past ++ past_in reached.spans)
+    → refusal_fact (b.past ++ past_of reached)
     (head_as (capped (b.n + length reached.events)) place time) front None refusal.reason refusal.expected ∷ []
     ≡ facts_at_end choice b reached (end_spans reached.standing (Some refusal))
 placed_end_fact law choice b reached n front refusal place time between spells standing counted placed timed none =
-    ap (λ (p : Place). refusal_fact (b.past ++ past_in reached.spans)
+    ap (λ (p : Place). refusal_fact (b.past ++ past_of reached)
     (head_as (capped (b.n + length reached.events)) p time) front None refusal.reason refusal.expected ∷ []) placed
     ∙ end_fact law choice b reached n front refusal time between spells standing counted timed none
 
@@ -145,7 +147,8 @@ pub none_in_other : (choice : ChoiceData) (b : Before) (reached : Reached) (n : 
     → facts_at_end choice b reached (end_spans reached.standing (Some refusal)) ≡ []
 none_in_other choice b reached n front refusal addr standing is =
     let facts = λ (l : List Span). span_facts choice.ignored (event_place b.read b.n reached.text)
-    (event_time b.n reached.text) (b.past ++ past_in reached.spans) (moved_spans b.n l) in
+    (event_time b.n reached.text) (lost_in reached.profile b.n reached.events) (b.past ++ past_of reached)
+    (moved_spans b.n l) in
     ap (λ (s : Standing). facts (filter (is_untold choice.ignored) (end_spans s (Some refusal)))) standing
     ∙ ap facts (other_told choice.ignored n front (refusal_data refusal) addr is)
 
@@ -209,7 +212,8 @@ pub other_at_end : (choice : ChoiceData) (profile : List DeviceParts) (b : Befor
 other_at_end choice profile b reached n front refusal addr standing is =
     let text = λ (l : List Span). fact_lines choice profile
     (span_facts choice.ignored (event_place b.read b.n reached.text)
-    (event_time b.n reached.text) (b.past ++ past_in reached.spans) (moved_spans b.n l))
+    (event_time b.n reached.text) (lost_in reached.profile b.n reached.events) (b.past ++ past_of reached)
+    (moved_spans b.n l))
     ++ last_lines choice profile
     (after_spans choice.ignored b.counts (reached.spans ++ end_spans reached.standing (Some refusal))) in
     ap (last_lines choice profile)
@@ -237,7 +241,7 @@ pub one_at_end : EachWordHasPlace → (choice : ChoiceData) (profile : List Devi
     → n + length front ≡ length reached.events → place ≡ end_of_last_word (b.read ++ reached.text)
     → time ≡ event_time b.n reached.text (b.n + n) → other_address choice.ignored front ≡ None
     → fact_lines choice profile
-    (refusal_fact (b.past ++ past_in reached.spans)
+    (refusal_fact (b.past ++ past_of reached)
     (head_as (capped (b.n + length reached.events)) place time) front None refusal.reason refusal.expected ∷ [])
     ++ last_lines choice profile (after_refusal (counted_so_far choice.ignored b reached) (said_device front))
     ≡ text_at_end choice profile b reached (end_spans reached.standing (Some refusal))

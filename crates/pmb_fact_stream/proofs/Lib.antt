@@ -5,12 +5,14 @@ pub mod Lists
 pub mod Alone
 pub mod Keeping
 pub mod Putting
+pub mod Losing
 pub mod Spans
 pub mod Starts
 pub mod UnderWay
 pub mod Beginnings
 pub mod Places
 pub mod Standing
+pub mod Passing
 pub mod Adding
 pub mod Told
 pub mod ToldSpans

@@ -45,9 +45,9 @@ abbrev pub NoneOutside : Standing → Option Refusal → Type 0
 NoneOutside standing end = (n : ℕ) (front : List Event) → standing ≡ Open n front → end ≡ None → front ≡ []
 
 module _ (ignored : Option (List ℕ)) (place : ℕ → Place) (times : ℕ → Option (List ℕ))
-    (before : List PastData) (m : ℕ) where
+    (lost : ℕ → List Event → List PastData) (before : List PastData) (m : ℕ) where
   abbrev facts_of : List Span → List FactData
-  facts_of spans = span_facts ignored place times before (moved_spans m spans)
+  facts_of spans = span_facts ignored place times lost before (moved_spans m spans)
 
   -- of one end, by whether it is inside an other
   one_told : (n : ℕ) (front : List Event) (refusal : RefusalData) (address : Option ℕ)

@@ -39,7 +39,9 @@ use Rattle.pmb_fact_stream.specs.machine.Begun.{begun_behind, begun_legs}
 use Rattle.pmb_fact_stream.specs.machine.Knowing.{IsCleared, IsCountOf, KeepsPacket, KeepsSame, KeepsUnderWay}
 use Rattle.pmb_fact_stream.specs.machine.Knowing.{KeepsTimes, KnowsTimes}
 use Rattle.pmb_fact_stream.specs.machine.Front.{front_of}
+use Rattle.pmb_fact_stream.specs.machine.Losing.{IsFresh}
 use Rattle.pmb_fact_stream.specs.machine.OpenTime.{KeepsTime}
+use Rattle.pmb_fact_stream.proofs.Losing.{settled_first}
 use Rattle.pmb_fact_stream.proofs.Starts.{one_more_kept}
 use Rattle.pmb_fact_stream.proofs.UnderWay.{behind_stop, keeps_time_behind, under_event, under_passed}
 
@@ -257,9 +259,9 @@ times_refusal old new reached n front event refusal times time knows = record {
 -- ---- where reading begins
 
 pub begins_so : (b : Before) (stream : Stream) → EndsBetween b.read → StreamKnows b stream → IsCleared stream
-    → stream.passing ≡ false → TimesStandAt stream.times [] → ((text : List ℕ) → KeepsTime stream.time text [])
-    → StreamBegins b stream
-begins_so b stream between knows cleared reading times time = record {
+    → IsFresh stream.writes → stream.passing ≡ false → TimesStandAt stream.times []
+    → ((text : List ℕ) → KeepsTime stream.time text []) → StreamBegins b stream
+begins_so b stream between knows cleared fresh reading times time = record {
   between = between;
   profile = refl;
   knows = knows_as b (with_reached (stream_choice stream).ignored b (at_start (stream_profile stream))) stream
@@ -268,6 +270,7 @@ begins_so b stream between knows cleared reading times time = record {
   packet = keeps_none b stream [] 0 reading cleared;
   counted = refl;
   times = record { times = times; time = time []; under_way = refl };
+  loses = (fresh (stream_profile stream), settled_first (stream_profile stream));
 }
 
 -- ---- how many came

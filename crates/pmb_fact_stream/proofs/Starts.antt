@@ -2,8 +2,7 @@
 -- and `put_parts`. At most 17 STARTs are kept, one for each of 16 parts and a refused leg; each
 -- fact has the place of its START.
 use Rattle.std.proofs.Common.{◌≡◌, ℕ, zero, suc, ◌+◌, ◌<◌, ◌≤◌, Bool, Option, List, [], ◌∷◌, ◌++◌, length, map, take}
-use Rattle.std.proofs.Common.{drop, false, nat_eq}
-use Rattle.std.proofs.lemmas.Bool.{ne_eqb}
+use Rattle.std.proofs.Common.{drop}
 use Rattle.std.proofs.Common.{get_or, append-nil, refl, sym, ap, ◌∙◌, arith}
 use Rattle.std.proofs.lemmas.List.{drop-map, length-map, map-append}
 use Rattle.pmb_bus.specs.declared.event.Event.{Event}
@@ -21,36 +20,12 @@ use Rattle.pmb_transaction.specs.declared.part.Part.{Part}
 use Rattle.pmb_transaction.specs.Transaction.{part_data, PartData, TransactionData, Write, Read, Call, Refused, Alert}
 use Rattle.pmb_transaction.specs.Transaction.{NoAlert}
 use Rattle.pmb_unknown_start.specs.Past.{PastData}
-use Rattle.pmb_fact_stream.specs.Spans.{count_starts}
 use Rattle.pmb_fact_stream.specs.declared.stream.Begun.{Begun}
 use Rattle.pmb_fact_stream.specs.machine.Begun.{begun_at, begun_behind, begun_legs}
 use Rattle.pmb_fact_stream.specs.machine.Begun.{kept_at, kept_fact, kept_facts, kept_writes}
 use Rattle.pmb_fact_stream.proofs.Lists.{same_last, take_behind, take_drop_take}
 
 -- ---- STARTs
-
-count_is : (n : ℕ) (events : List Event) → length (starts n events) ≡ count_starts events
-count_is n [] = refl
-count_is n (Start ∷ events) = ap suc (count_is (n + 1) events)
-count_is n (Byte b ∷ events) = count_is (n + 1) events
-count_is n (Ack ∷ events) = count_is (n + 1) events
-count_is n (Nack ∷ events) = count_is (n + 1) events
-count_is n (Stop ∷ events) = count_is (n + 1) events
-
-not_one : (k : ℕ) → nat_eq (suc (suc k)) 1 ≡ false
-not_one k = ne_eqb (suc (suc k)) 1 (λ is. omega (arith, is))
-
-one_taken : {A : Type 0} (xs : List A) → nat_eq (length (take 17 xs)) 1 ≡ nat_eq (length xs) 1
-one_taken [] = refl
-one_taken (x ∷ []) = refl
-one_taken (x ∷ y ∷ xs) = not_one (length (take 15 xs)) ∙ sym (not_one (length xs))
-
--- one is kept where one is there
-pub one_begun : (place : ℕ → Place) (n : ℕ) (events : List Event)
-    → nat_eq (length (begun_legs place n events)) 1 ≡ nat_eq (count_starts events) 1
-one_begun place n events =
-    one_taken (map (begun_at place) (starts n events))
-    ∙ ap (λ (k : ℕ). nat_eq k 1) (length-map (starts n events) (begun_at place) ∙ count_is n events)
 
 behind_one : (n : ℕ) (a : List Event) → (n + 1) + length a ≡ n + suc (length a)
 behind_one n a = omega arith

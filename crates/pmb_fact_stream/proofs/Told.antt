@@ -22,16 +22,16 @@ use Rattle.pmb_scan.specs.Reached.{standing_after}
 use Rattle.pmb_fact_stream.specs.declared.open_time.OpenTime.{OpenTime}
 use Rattle.pmb_fact_stream.specs.declared.kept_stream.KeptStream.{KeptStream}
 use Rattle.pmb_fact_stream.specs.declared.stream.Stream.{Stream}
-use Rattle.pmb_fact_stream.specs.Before.{Before, with_reached}
+use Rattle.pmb_fact_stream.specs.Before.{Before, past_of, with_reached}
 use Rattle.pmb_fact_stream.specs.Choice.{ChoiceData}
 use Rattle.pmb_fact_stream.specs.Spans.{after_open, after_some, after_spans, event_place, event_time}
-use Rattle.pmb_fact_stream.specs.Spans.{past_in}
 use Rattle.pmb_fact_stream.specs.Stream.{kept_by}
 use Rattle.pmb_fact_stream.specs.Stream.{HasToldOf, IsSame, StreamAt, StreamKnows, TellsFacts, stream_choice}
 use Rattle.pmb_fact_stream.specs.Stream.{stream_last_lines, stream_profile, stream_time}
 use Rattle.pmb_fact_stream.specs.UnderWay.{under_way}
 use Rattle.pmb_fact_stream.specs.machine.Knowing.{IsCountOf, IsUnderWay, KeepsPacket, KeepsSame}
 use Rattle.pmb_fact_stream.specs.machine.Knowing.{KeepsUnderWay, KnowsTimes}
+use Rattle.pmb_fact_stream.specs.machine.Losing.{IsSettled, KnowsLost}
 use Rattle.pmb_fact_stream.specs.declared.front.Front.{Front}
 use Rattle.pmb_fact_stream.specs.machine.Front.{begins_behind, begins_other, front_of, other_begun_at}
 use Rattle.pmb_fact_stream.specs.machine.OpenTime.{HasTime, kept_time}
@@ -40,8 +40,9 @@ use Rattle.pmb_fact_stream.proofs.Fronts.{open_none, open_other, open_stays}
 use Rattle.pmb_fact_stream.proofs.Places.{LastWordStands}
 use Rattle.pmb_fact_stream.proofs.UnderWay.{time_in_packet, time_of_packet}
 use Rattle.pmb_fact_stream.proofs.Standing.{counts_event, keeps_as, keeps_behind, knows_as}
-use Rattle.pmb_fact_stream.proofs.Adding.{FactsAre, begun_fact, facts_begin, facts_behind, facts_stay, head_as}
-use Rattle.pmb_fact_stream.proofs.Adding.{open_in}
+use Rattle.pmb_fact_stream.proofs.Adding.{FactsAre, begun_fact, facts_begin, facts_behind, facts_stay, facts_then}
+use Rattle.pmb_fact_stream.proofs.Adding.{head_as, open_in}
+use Rattle.pmb_fact_stream.proofs.Losing.{loses_bytes, settled_open}
 use Rattle.pmb_fact_stream.proofs.Keeping.{same_told, tells_on}
 
 -- the same choice twice
@@ -147,10 +148,11 @@ module _ {K : Type 0} (Keeps : K → Setting → List FactData → Type 0) (b : 
           (keeps_behind b old.stream reached.text bytes reached.standing told.at.packet);
       counted = told.at.counted;
       times = times;
+      loses = loses_bytes old.stream.writes new.writes reached bytes packet.writes told.at.loses;
     };
     time = times.time.time;
-    told = facts_behind (stream_choice start.stream) b reached.text bytes reached.spans reached.standing
-        (TellsFacts Keeps start.stream start.keeper old.keeper text) told.told;
+    told = facts_behind (stream_choice start.stream) b reached.profile reached.text bytes reached.events reached.spans
+        reached.standing (TellsFacts Keeps start.stream start.keeper old.keeper text) told.told;
   }
 
   pub one_more_event : (event : Event) → (b.n + length reached.events) + 1 ≡ b.n + length (reached.events ++ event ∷ [])
@@ -160,10 +162,11 @@ module _ {K : Type 0} (Keeps : K → Setting → List FactData → Type 0) (b : 
   pub told_event : (event : Event) → IsSame old.stream new → KnowsTimes new (behind_event reached event)
       → other_begun_at (stream_choice old.stream).ignored reached.standing event ≡ None
       → StreamKnows (record (with_reached (stream_choice old.stream).ignored b reached)
-      { n = (b.n + length reached.events) + 1 }) new
+      { n = (b.n + length reached.events) + 1; past = b.past ++ past_of (behind_event reached event) }) new
       → KeepsUnderWay b new reached.text (standing_after reached.standing event)
+      → KnowsLost new.writes (behind_event reached event) (standing_after reached.standing event)
       → HasToldOf Keeps b start (kept_by new old.keeper) (behind_event reached event) text
-  told_event event same times none knows packet =
+  told_event event same times none knows packet loses =
       let ignored = (stream_choice old.stream).ignored in
       let counts = after_spans ignored b.counts reached.spans in
       let none_here = same_choice (λ c. other_begun_at c.ignored reached.standing event ≡ None) none in record {
@@ -178,12 +181,16 @@ module _ {K : Type 0} (Keeps : K → Setting → List FactData → Type 0) (b : 
           packet = packet;
           counted = counts_event reached.standing reached.events event told.at.counted;
           times = times;
+          loses = loses;
         };
         time = times.time.time;
-        told = facts_stay (stream_choice start.stream) b reached.text reached.spans reached.standing
-            (standing_after reached.standing event) (TellsFacts Keeps start.stream start.keeper old.keeper text)
+        told = facts_stay (stream_choice start.stream) b reached.profile reached.text (reached.events ++ event ∷ [])
+            reached.spans reached.standing (standing_after reached.standing event)
+            (TellsFacts Keeps start.stream start.keeper old.keeper text)
             (λ l. open_stays (stream_choice start.stream).ignored (event_place b.read b.n l) (event_time b.n l)
-            b.n reached.standing event none_here) told.told;
+            b.n reached.standing event none_here)
+            (facts_then (stream_choice start.stream) b reached.profile reached.text reached.events (event ∷ [])
+            reached.spans reached.standing (TellsFacts Keeps start.stream start.keeper old.keeper text) told.told);
       }
 
   -- what is under way is the packet
@@ -216,11 +223,15 @@ module _ {K : Type 0} (Keeps : K → Setting → List FactData → Type 0) (b : 
 
   -- the facts so far, with the packet under way
   pub facts_under_way : (n : ℕ) (front : List Event) → reached.standing ≡ Open n front
-      → FactsAre (stream_choice start.stream) b reached.text reached.spans (Open n front)
+      → FactsAre (stream_choice start.stream) b reached.profile reached.text reached.events reached.spans (Open n front)
       (TellsFacts Keeps start.stream start.keeper old.keeper text)
   facts_under_way n front standing =
-      subst (λ (s : Standing). FactsAre (stream_choice start.stream) b reached.text reached.spans s
-      (TellsFacts Keeps start.stream start.keeper old.keeper text)) standing told.told
+      subst (λ (s : Standing). FactsAre (stream_choice start.stream) b reached.profile reached.text reached.events
+      reached.spans s (TellsFacts Keeps start.stream start.keeper old.keeper text)) standing told.told
+
+  -- nothing more is lost with what was reached before that packet
+  pub settled_under_way : (n : ℕ) (front : List Event) → reached.standing ≡ Open n front → IsSettled reached
+  settled_under_way n front standing = settled_open old.stream.writes reached n front standing told.at.loses
 
   -- the address byte of an other
   pub told_other : LastWordStands → (n : ℕ) (front : List Event) (event : Event) (addr : ℕ)
@@ -230,16 +241,18 @@ module _ {K : Type 0} (Keeps : K → Setting → List FactData → Type 0) (b : 
       → StreamKnows (record {
         read = b.read ++ reached.text;
         n = (b.n + length reached.events) + 1;
-        past = b.past ++ past_in reached.spans;
+        past = b.past ++ past_of (behind_event reached event);
         counts = after_other (after_open (stream_choice old.stream).ignored
             (after_spans (stream_choice old.stream).ignored b.counts reached.spans) reached.standing) addr;
       }) new
       → KeepsUnderWay b new reached.text (standing_after reached.standing event)
+      → KnowsLost new.writes (behind_event reached event) (standing_after reached.standing event)
       → (keeper : K) (added : List ℕ) (place : Place) → place ≡ place_of_last_word (b.read ++ reached.text)
       → TellsFacts Keeps old.stream old.keeper keeper added
       (other_fact (head_as (capped (b.n + length reached.events)) place (stream_time old.stream)) addr ∷ [])
       → HasToldOf Keeps b start (kept_by new keeper) (behind_event reached event) (text ++ added)
-  told_other law n front event addr standing spells same times other knows packet keeper added place placed tells =
+  told_other law n front event addr standing spells same times other knows packet loses keeper added place placed
+      tells =
       let ignored = (stream_choice old.stream).ignored in
       let counts = after_spans ignored b.counts reached.spans in
       let next = Open n (front ++ event ∷ []) in
@@ -273,13 +286,19 @@ module _ {K : Type 0} (Keeps : K → Setting → List FactData → Type 0) (b : 
           packet = packet;
           counted = counts_event reached.standing reached.events event told.at.counted;
           times = times;
+          loses = loses;
         };
         time = times.time.time;
-        told = subst (λ (s : Standing). FactsAre (stream_choice start.stream) b reached.text reached.spans s
+        told = subst (λ (s : Standing). FactsAre (stream_choice start.stream) b reached.profile reached.text
+            (reached.events ++ event ∷ []) reached.spans s
             (TellsFacts Keeps start.stream start.keeper keeper (text ++ added))) (sym at_next)
-            (facts_begin (stream_choice start.stream) b reached.text reached.spans (Open n front) next
+            (facts_begin (stream_choice start.stream) b reached.profile reached.text (reached.events ++ event ∷ [])
+            reached.spans (Open n front) next
             (TellsFacts Keeps start.stream start.keeper old.keeper text)
             (TellsFacts Keeps start.stream start.keeper keeper (text ++ added)) (facts place)
             (λ l. open_none (stream_choice start.stream).ignored (event_place b.read b.n l) (event_time b.n l) b.n n
-            front here.before) adds (tells_more keeper added (facts place) tells) (facts_under_way n front standing));
+            front here.before) adds (tells_more keeper added (facts place) tells)
+            (facts_then (stream_choice start.stream) b reached.profile reached.text reached.events (event ∷ [])
+            reached.spans (Open n front) (TellsFacts Keeps start.stream start.keeper old.keeper text)
+            (facts_under_way n front standing)));
       }

@@ -27,18 +27,21 @@ use Rattle.pmb_unknown_start.specs.Past.{PastData, Said}
 use Rattle.pmb_fact_stream.specs.declared.stream.Begun.{Begun}
 use Rattle.pmb_fact_stream.specs.declared.kept_stream.KeptStream.{KeptStream}
 use Rattle.pmb_fact_stream.specs.declared.stream.Stream.{Stream}
-use Rattle.pmb_fact_stream.specs.Before.{Before, with_reached}
+use Rattle.pmb_fact_stream.specs.Before.{Before, past_of, with_reached}
 use Rattle.pmb_fact_stream.specs.Choice.{ChoiceData}
 use Rattle.pmb_fact_stream.specs.Others.{address_if, is_ignored, other_address}
 use Rattle.pmb_fact_stream.specs.Spans.{after_either, after_open, after_spans, event_place, event_time}
+use Rattle.pmb_fact_stream.specs.Lost.{lost_in}
 use Rattle.pmb_fact_stream.specs.Spans.{past_in}
 use Rattle.pmb_fact_stream.specs.Stream.{HasToldOf, IsSame, StreamKnows, TellsFacts, stream_choice, stream_time}
 use Rattle.pmb_fact_stream.specs.machine.Begun.{begun_legs, kept_facts}
 use Rattle.pmb_fact_stream.specs.machine.Inside.{HasOneStart}
 use Rattle.pmb_fact_stream.specs.machine.Knowing.{IsCleared, IsCountOf, IsUnderWay, KeepsPacket, KeepsUnderWay}
 use Rattle.pmb_fact_stream.specs.machine.Knowing.{KnowsTimes}
+use Rattle.pmb_fact_stream.specs.machine.Losing.{IsFresh, IsSettled}
 use Rattle.pmb_fact_stream.proofs.Beginnings.{begins}
-use Rattle.pmb_fact_stream.proofs.Spans.{counts_append, past_append}
+use Rattle.pmb_fact_stream.proofs.Losing.{said_more, said_now, settled_open}
+use Rattle.pmb_fact_stream.proofs.Spans.{counts_append}
 use Rattle.pmb_fact_stream.proofs.Standing.{keeps_none, knows_as, whole_line}
 use Rattle.pmb_fact_stream.proofs.Adding.{AddsFacts, FactsAre, facts_behind, facts_more, own_facts}
 use Rattle.pmb_fact_stream.specs.Stream.{kept_by}
@@ -187,17 +190,17 @@ bytes_in_line events bytes is text =
 -- ---- what it adds
 
 -- its facts, by what was kept of its START
-whole_adds : (choice : ChoiceData) (b : Before) (reached : Reached)
+whole_adds : (choice : ChoiceData) (b : Before) (reached : Reached) (past : List PastData)
     (time : Option (List ℕ)) (begun : List Begun) (n : ℕ) (rest : List Event) (t : TransactionData) → HasOneStart t
     → ((more : List ℕ) → begun ≡ begun_legs (event_place b.read b.n ((reached.text ++ codes "S ") ++ more)) (b.n + n)
     (Start ∷ []))
     → ((more : List ℕ) → time ≡ event_time b.n ((reached.text ++ codes "S ") ++ more) (b.n + n))
     → other_address choice.ignored (whole_line rest) ≡ None
-    → AddsFacts choice b (reached.text ++ canonical_text (whole_line rest)) reached.spans
+    → AddsFacts choice b (reached.text ++ canonical_text (whole_line rest)) past
     (Open n (Start ∷ [])) (ReadSpan n (whole_line rest) t)
-    (kept_facts (b.past ++ past_in reached.spans) time begun t)
-whole_adds choice b reached time begun n rest t one kept timed none more =
-    let before = b.past ++ past_in reached.spans in
+    (kept_facts (b.past ++ past) time begun t)
+whole_adds choice b reached past time begun n rest t one kept timed none more lost =
+    let before = b.past ++ past in
     let place = event_place b.read b.n ((reached.text ++ canonical_text (whole_line rest)) ++ more) in
     let times = event_time b.n ((reached.text ++ canonical_text (whole_line rest)) ++ more) in
     let all : (reached.text ++ codes "S ") ++ (rest_text rest ++ more) ≡
@@ -227,20 +230,20 @@ module _ {K : Type 0} (Keeps : K → Setting → List FactData → Type 0) (b : 
       → KnowsTimes new (behind_whole reached n (canonical_text (whole_line rest)) (whole_line rest) t)
       → HasOneStart t → other_address (stream_choice mid.stream).ignored (whole_line rest) ≡ None → IsSame mid.stream
       new →
-      new.passing ≡ mid.stream.passing → IsCleared new
+      new.passing ≡ mid.stream.passing → IsCleared new → IsFresh new.writes
       → StreamKnows (record {
         read = (b.read ++ (reached.text ++ codes "S ")) ++ rest_text rest;
         n = ((b.n + length (reached.events ++ Start ∷ [])) + length rest) + 1;
-        past = (b.past ++ past_in reached.spans) ++ Said t ∷ [];
+        past = (b.past ++ past_of (begun_whole reached)) ++ Said t ∷ [];
         counts = after_packet (after_open (stream_choice mid.stream).ignored
             (after_spans (stream_choice mid.stream).ignored b.counts reached.spans)
             (standing_after reached.standing Start)) t;
       }) new
       → (keeper : K) (added : List ℕ) → TellsFacts Keeps mid.stream mid.keeper keeper added
-      (kept_facts (b.past ++ past_in reached.spans) (stream_time mid.stream) mid.stream.begun.items t)
+      (kept_facts (b.past ++ past_of (begun_whole reached)) (stream_time mid.stream) mid.stream.begun.items t)
       → HasToldOf Keeps b start (kept_by new keeper)
       (behind_whole reached n (canonical_text (whole_line rest)) (whole_line rest) t) (text ++ added)
-  told_whole told standing times one none same passing cleared knows keeper added tells =
+  told_whole told standing times one none same passing cleared fresh knows keeper added tells =
       let there = behind_whole reached n (canonical_text (whole_line rest)) (whole_line rest) t in
       let bytes = reached.text ++ canonical_text (whole_line rest) in
       let span = ReadSpan n (whole_line rest) t in
@@ -267,13 +270,28 @@ module _ {K : Type 0} (Keeps : K → Setting → List FactData → Type 0) (b : 
       let so_told = TellsFacts Keeps start.stream start.keeper mid.keeper text in
       let begun : standing_after reached.standing Start ≡ Open n (Start ∷ []) =
       ap (λ (s : Standing). standing_after s Start) standing in
-      let before : FactsAre (stream_choice start.stream) b bytes reached.spans (Open n (Start ∷ [])) so_told =
-      subst (λ (l : List ℕ). FactsAre (stream_choice start.stream) b l reached.spans (Open n (Start ∷ [])) so_told)
+      let first = reached.events ++ Start ∷ [] in
+      let before : FactsAre (stream_choice start.stream) b reached.profile bytes first reached.spans
+      (Open n (Start ∷ [])) so_told =
+      subst (λ (l : List ℕ). FactsAre (stream_choice start.stream) b reached.profile l first reached.spans
+      (Open n (Start ∷ [])) so_told)
       (append_assoc reached.text (codes "S ") (rest_text rest))
-      (facts_behind (stream_choice start.stream) b (reached.text ++ codes "S ") (rest_text rest) reached.spans
-      (Open n (Start ∷ [])) so_told
-      (subst (λ (s : Standing). FactsAre (stream_choice start.stream) b (reached.text ++ codes "S ") reached.spans s
-      so_told) begun told.told)) in
+      (facts_behind (stream_choice start.stream) b reached.profile (reached.text ++ codes "S ") (rest_text rest) first
+      reached.spans (Open n (Start ∷ [])) so_told
+      (subst (λ (s : Standing). FactsAre (stream_choice start.stream) b reached.profile (reached.text ++ codes "S ")
+      first reached.spans s so_told) begun told.told)) in
+      -- nothing more is lost with what came before its START, and nothing with it
+      let settled : IsSettled (begun_whole reached) =
+      settled_open mid.stream.writes (begun_whole reached) n (Start ∷ []) begun told.at.loses in
+      let tail = rest ++ Stop ∷ [] in
+      let together : first ++ tail ≡ reached.events ++ whole_line rest =
+      append_assoc reached.events (Start ∷ []) tail in
+      let lost = λ (es : List Event). past_in (lost_in reached.profile 0 es) (reached.spans ++ span ∷ []) in
+      let said : past_of (begun_whole reached) ++ Said t ∷ [] ≡ past_of there =
+      said_now (begun_whole reached) n (whole_line rest) tail t settled ∙ ap lost together in
+      let stays : IsSettled there =
+      λ later. ap (λ (es : List Event). lost (es ++ later)) (sym together)
+      ∙ said_more (begun_whole reached) n (whole_line rest) tail later t settled ∙ said in
       -- what was counted
       let ignored = (stream_choice mid.stream).ignored in
       let counts = after_spans ignored b.counts reached.spans in
@@ -293,20 +311,24 @@ module _ {K : Type 0} (Keeps : K → Setting → List FactData → Type 0) (b : 
               (append_assoc b.read (reached.text ++ codes "S ") (rest_text rest)
               ∙ ap (λ (l : List ℕ). b.read ++ l) (append_assoc reached.text (codes "S ") (rest_text rest)))
               (omega (arith, so_far, all, own))
-              (append_assoc b.past (past_in reached.spans) (Said t ∷ [])
-              ∙ ap (λ (past : List PastData). b.past ++ past) (sym (past_append reached.spans (span ∷ []))))
+              (append_assoc b.past (past_of (begun_whole reached)) (Said t ∷ [])
+              ∙ ap (λ (past : List PastData). b.past ++ past) said)
               counts_are knows);
           packet = keeps_none b new bytes (n + length (whole_line rest)) (passing ∙ kept.reading) cleared;
           counted = omega (arith, counted, so_far, all, own);
           times = times;
+          loses = (fresh reached.profile, stays);
         };
         time = times.time.time;
-        told = facts_more (stream_choice start.stream) b bytes reached.spans (Open n (Start ∷ [])) there.standing span
+        told = subst (λ (es : List Event). FactsAre (stream_choice start.stream) b reached.profile bytes es there.spans
+            there.standing (TellsFacts Keeps start.stream start.keeper keeper (text ++ added))) together
+            (facts_more (stream_choice start.stream) b reached.profile bytes first tail reached.spans
+            (past_of (begun_whole reached)) (Open n (Start ∷ [])) there.standing span
             so_told (TellsFacts Keeps start.stream start.keeper keeper (text ++ added))
-            (kept_facts (b.past ++ past_in reached.spans) (stream_time mid.stream)
-            mid.stream.begun.items t) (λ l. refl) before
-            (whole_adds (stream_choice start.stream) b reached (stream_time mid.stream) mid.stream.begun.items n rest
-            t one kept.begun timed
+            (kept_facts (b.past ++ past_of (begun_whole reached)) (stream_time mid.stream)
+            mid.stream.begun.items t) (λ l. refl) settled before
+            (whole_adds (stream_choice start.stream) b reached (past_of (begun_whole reached)) (stream_time mid.stream)
+            mid.stream.begun.items n rest t one kept.begun timed
             (subst (λ (c : ChoiceData). other_address c.ignored (whole_line rest) ≡ None) told.same.choice none))
-            (tells_more Keeps b start mid new (begun_whole reached) text told keeper added _ tells);
+            (tells_more Keeps b start mid new (begun_whole reached) text told keeper added _ tells));
       }

@@ -3,6 +3,7 @@ use Rattle.std.specs.Prelude.{ℕ, ◌+◌, Option, List, [], ◌∷◌, ◌++�
 use Rattle.pmb_json_objects.specs.Counts.{CountsData, nothing_counted}
 use Rattle.pmb_scan.specs.Reached.{Reached}
 use Rattle.pmb_unknown_start.specs.Past.{PastData, Dropped}
+use Rattle.pmb_fact_stream.specs.Lost.{lost_in}
 use Rattle.pmb_fact_stream.specs.Spans.{after_open, after_spans, past_in}
 
 -- What was read before, how many events that were, what went before, and the counts. What went before are
@@ -25,11 +26,15 @@ with_bytes b bytes = record b { read = b.read ++ bytes }
 abbrev pub drop_line : Before → Before
 drop_line b = record b { past = b.past ++ Dropped ∷ [] }
 
+-- What went before, of what a scan has reached: its transactions, and what was lost so far at its refusals.
+abbrev pub past_of : Reached → List PastData
+past_of reached = past_in (lost_in reached.profile 0 reached.events) reached.spans
+
 -- what a scan has reached that began there, where these addresses are ignored
 abbrev pub with_reached : Option (List ℕ) → Before → Reached → Before
 with_reached ignored b reached = record {
   read = b.read ++ reached.text;
   n = b.n + length reached.events;
-  past = b.past ++ past_in reached.spans;
+  past = b.past ++ past_of reached;
   counts = after_open ignored (after_spans ignored b.counts reached.spans) reached.standing;
 }

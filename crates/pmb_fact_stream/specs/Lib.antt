@@ -5,6 +5,7 @@ pub mod Records
 pub mod Keeping
 pub mod UnderWay
 pub mod Others
+pub mod Lost
 pub mod Spans
 pub mod Before
 pub mod Stream

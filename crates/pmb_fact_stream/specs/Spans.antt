@@ -1,8 +1,7 @@
 -- The facts of what a capture reads as, and what was counted after it.
-use Rattle.std.specs.Prelude.{◌≡◌, ℕ, suc, ◌+◌, ◌-◌, nat_eq, Bool, true, false, not, ◌&&◌, ◌||◌, Option, Some, None, List, [], ◌∷◌, ◌++◌, fold}
-use Rattle.std.specs.Prelude.{is_some, length, slice_index_or, take}
+use Rattle.std.specs.Prelude.{◌≡◌, ℕ, ◌+◌, ◌-◌, Option, Some, None, List, [], ◌∷◌, ◌++◌, fold}
+use Rattle.std.specs.Prelude.{length, slice_index_or, take}
 use Rattle.pmb_bus.specs.declared.event.Event.{Event}
-use Rattle.pmb_bus.specs.declared.event.Event.TheVariants.{Start, Byte, Ack, Nack, Stop}
 use Rattle.pmb_bus.specs.declared.kinds.Kinds.{Kinds}
 use Rattle.pmb_facts.specs.Fact.{FactData, Other, Refusal, BadToken}
 use Rattle.pmb_facts.specs.Packets.{packet_facts}
@@ -13,16 +12,14 @@ use Rattle.pmb_json_objects.specs.Head.{Head, head_at}
 use Rattle.pmb_places.specs.declared.places.Place.{Place}
 use Rattle.pmb_places.specs.Text.{end_of_last_word, places_from}
 use Rattle.pmb_times.specs.Text.{time_at}
-use Rattle.pmb_partial_packet.specs.PartialPacket.{reply, said_device}
+use Rattle.pmb_partial_packet.specs.PartialPacket.{said_device}
 use Rattle.pmb_reader.specs.declared.refusal.Refusal.{Refusal as RefusalValue}
 use Rattle.pmb_reader.specs.Standing.{Standing, Open, Held, Passing}
 use Rattle.pmb_scan.specs.Reached.{Reached}
 use Rattle.pmb_spans.specs.Spans.{Span, ReadSpan, RefusedSpan, TruncatedSpan}
 use Rattle.pmb_transaction.specs.declared.reason.Reason.{Reason}
 use Rattle.pmb_transaction.specs.Reading.{RefusalData}
-use Rattle.pmb_transaction.specs.declared.reason.Reason.TheVariants.{ReadFirst, BadRestart, BadPec, UnknownDevice}
-use Rattle.pmb_transaction.specs.declared.reason.Reason.TheVariants.{UnknownCommand, TooLong, TooShort, WrongEvent, Truncated}
-use Rattle.pmb_unknown_start.specs.Past.{PastData, Said, Dropped}
+use Rattle.pmb_unknown_start.specs.Past.{PastData, Said}
 use Rattle.pmb_fact_stream.specs.Others.{other_address, span_events}
 
 -- ---- places
@@ -42,61 +39,14 @@ event_time n text at = time_at text (at - n)
 
 -- ---- what was read and counted
 
--- how many legs have begun
-abbrev pub count_starts : List Event → ℕ
-count_starts [] = 0
-count_starts (Start ∷ events) = suc (count_starts events)
-count_starts (Byte b ∷ events) = count_starts events
-count_starts (Ack ∷ events) = count_starts events
-count_starts (Nack ∷ events) = count_starts events
-count_starts (Stop ∷ events) = count_starts events
-
--- The packet is told to no device of the profile: its first address byte is refused, or no device has the
--- address that is acknowledged.
-abbrev pub is_to_none : List Event → Reason → Bool
-is_to_none front ReadFirst = true
-is_to_none front BadRestart = false
-is_to_none front BadPec = false
-is_to_none front UnknownDevice = nat_eq (count_starts front) 1
-is_to_none front UnknownCommand = false
-is_to_none front TooLong = false
-is_to_none front TooShort = false
-is_to_none front WrongEvent = false
-is_to_none front Truncated = false
-
-abbrev pub is_start : Event → Bool
-is_start Start = true
-is_start (Byte b) = false
-is_start Ack = false
-is_start Nack = false
-is_start Stop = false
-
--- Devices take nothing in a leg that is read; but with a START there another packet may begin.
-abbrev pub may_take : List Event → Event → Bool
-may_take front event = is_start event || not (is_some (reply front))
-
--- Whether something may be lost where an event is refused that comes after these. A device may have taken
--- what came of the packet, and what is passed over from the refused event to the next STOP may hold whole
--- packets, as where a line is cut between two words and the next is passed over. Each of them may have set
--- PAGE, PHASE or VOUT_MODE.
-abbrev pub loses : List Event → Event → Reason → Bool
-loses front event reason = not (is_to_none front reason) && may_take front event
-
-abbrev pub dropped_if : Bool → List PastData
-dropped_if true = Dropped ∷ []
-dropped_if false = []
-
--- What was lost counts as a line that was dropped: nobody knows what the devices were told.
-abbrev pub lost : List Event → Event → Reason → List PastData
-lost front event reason = dropped_if (loses front event reason)
-
--- What went before, of spans: their transactions, each of which was said, and what was lost at refusals.
--- After an end inside a packet nothing comes.
-abbrev pub past_in : List Span → List PastData
-past_in [] = []
-past_in (ReadSpan n events t ∷ spans) = Said t ∷ past_in spans
-past_in (RefusedSpan n front event refusal ∷ spans) = lost front event refusal.reason ++ past_in spans
-past_in (TruncatedSpan n front refusal ∷ spans) = past_in spans
+-- What went before, of spans: their transactions, each of which was said, and what was lost where an event was
+-- refused, by the number of the packet's first event and the events before the refused one. After an end inside a
+-- packet nothing comes.
+abbrev pub past_in : (lost : ℕ → List Event → List PastData) → List Span → List PastData
+past_in lost [] = []
+past_in lost (ReadSpan n events t ∷ spans) = Said t ∷ past_in lost spans
+past_in lost (RefusedSpan n front event refusal ∷ spans) = lost n front ++ past_in lost spans
+past_in lost (TruncatedSpan n front refusal ∷ spans) = past_in lost spans
 
 -- as a packet or a refusal
 abbrev pub after_reported : CountsData → Span → CountsData
@@ -163,18 +113,18 @@ module _ (place : ℕ → Place) (times : ℕ → Option (List ℕ)) where
 module _ (ignored : Option (List ℕ)) (place : ℕ → Place) (times : ℕ → Option (List ℕ)) where
   -- Those of spans, after what went before. All facts of a span have the time of its first event. What is
   -- lost at a refusal was still known to the fact of that refusal.
-  abbrev pub span_facts : List PastData → List Span → List FactData
-  span_facts before [] = []
-  span_facts before (ReadSpan n events t ∷ spans) =
+  abbrev pub span_facts : (lost : ℕ → List Event → List PastData) → List PastData → List Span → List FactData
+  span_facts lost before [] = []
+  span_facts lost before (ReadSpan n events t ∷ spans) =
       other_or place times n (other_address ignored events) (packet_facts before place (times n) n events t)
-      ++ span_facts (before ++ Said t ∷ []) spans
-  span_facts before (RefusedSpan n front event refusal ∷ spans) =
+      ++ span_facts lost (before ++ Said t ∷ []) spans
+  span_facts lost before (RefusedSpan n front event refusal ∷ spans) =
       other_or place times n (other_address ignored (front ++ event ∷ []))
       (refused_span place times before n front (Some event) refusal ∷ [])
-      ++ span_facts (before ++ lost front event refusal.reason) spans
-  span_facts before (TruncatedSpan n front refusal ∷ spans) =
+      ++ span_facts lost (before ++ lost n front) spans
+  span_facts lost before (TruncatedSpan n front refusal ∷ spans) =
       other_or place times n (other_address ignored front) (refused_span place times before n front None refusal ∷ [])
-      ++ span_facts before spans
+      ++ span_facts lost before spans
 
   -- that of an other that is under way, where m events came before what was scanned
   abbrev pub open_facts : ℕ → Standing → List FactData

@@ -6,6 +6,7 @@
 -- fields is in `machine`, and nothing here needs it to be understood. `Keeps` is what the keeper
 -- beside it says of the facts that it was given.
 use Rattle.std.specs.Prelude.{◌≡◌, ℕ, List, ◌++◌}
+use Rattle.pmb_bus.specs.declared.event.Event.{Event}
 use Rattle.pmb_facts.specs.Fact.{FactData}
 use Rattle.pmb_json_objects.specs.Counts.{CountsData}
 use Rattle.pmb_keeper.specs.Setting.{Setting}
@@ -18,6 +19,7 @@ use Rattle.pmb_fact_stream.specs.UnderWay.{open_time}
 use Rattle.pmb_fact_stream.specs.Choice.{ChoiceData}
 use Rattle.pmb_fact_stream.specs.Keeping.{IsTold, KeepsOn, setting_under}
 use Rattle.pmb_fact_stream.specs.Lines.{fact_lines, last_lines}
+use Rattle.pmb_fact_stream.specs.Lost.{lost_in}
 use Rattle.pmb_fact_stream.specs.Spans.{event_place, event_time, open_facts, span_facts}
 pub use Rattle.pmb_fact_stream.specs.machine.Knowing.{
   StreamKnows,
@@ -35,12 +37,13 @@ pub record IsSame (start now : Stream) : Type 0 where
   pub profile : stream_profile now ≡ stream_profile start
 
 -- Where a scan began after `b`, this holds of the facts of what it has reached, with that of an other
--- that is under way, whatever text follows: each place and each time is known by then.
+-- that is under way, whatever text and whatever events follow: each place and each time is known by then, and
+-- what was lost before each fact.
 abbrev pub HoldsOf : ChoiceData → Before → Reached → (List FactData → Type 0) → Type 0
 HoldsOf choice b reached Holds =
-    (more : List ℕ) → Holds
+    (more : List ℕ) (later : List Event) → Holds
     (span_facts choice.ignored (event_place b.read b.n (reached.text ++ more)) (event_time b.n (reached.text ++ more))
-    b.past (moved_spans b.n reached.spans)
+    (lost_in reached.profile b.n (reached.events ++ later)) b.past (moved_spans b.n reached.spans)
     ++ open_facts choice.ignored (event_place b.read b.n (reached.text ++ more))
     (event_time b.n (reached.text ++ more)) b.n reached.standing)
 

@@ -4,5 +4,6 @@ pub mod Counts
 pub mod Inside
 pub mod OpenTime
 pub mod Front
+pub mod Losing
 pub mod Knowing
 pub mod Putting

@@ -18,10 +18,11 @@ ghost use Rattle.pmb_scan.specs.Reached.{Reached};
 ghost use Rattle.pmb_scan.specs.Scan.{Truncates, end_spans};
 ghost use Rattle.pmb_spans.specs.Spans.{moved_spans};
 ghost use Rattle.pmb_transaction.specs.Capture.{Viable};
-ghost use Rattle.pmb_fact_stream.specs.Before.{Before};
+ghost use Rattle.pmb_fact_stream.specs.Before.{Before, past_of};
 ghost use Rattle.pmb_fact_stream.specs.Choice.{gives_others};
+ghost use Rattle.pmb_fact_stream.specs.Lost.{lost_in};
 ghost use Rattle.pmb_fact_stream.specs.Others.{is_untold};
-ghost use Rattle.pmb_fact_stream.specs.Spans.{CountsTally, IsNoneOutside, after_spans, bad_token_fact, event_place, event_time, other_fact, past_in, refusal_fact, span_facts};
+ghost use Rattle.pmb_fact_stream.specs.Spans.{CountsTally, IsNoneOutside, after_spans, bad_token_fact, event_place, event_time, other_fact, refusal_fact, span_facts};
 ghost use Rattle.pmb_fact_stream.specs.Stream.{IsSame, KeepsFacts, StreamAt, StreamKnows, stream_choice, stream_last_lines, stream_lines, stream_profile, stream_tally, stream_time};
 ghost use Rattle.pmb_fact_stream.specs.machine.Counts.{counts_of};
 ghost use Rattle.pmb_fact_stream.specs.machine.Knowing.{KeepsTimes};
@@ -102,12 +103,12 @@ impl<'p> Stream<'p> {
         ensures puts { (b : Before) (reached : Reached) → StreamAt b self.old reached → Spells reached.text reached.events → Truncates reached end → IsNoneOutside reached end
             → OnOk result (PutsText (W.told writer.old).held waiting.old.items (W.told writer.new).held waiting.new.items
             (stream_lines self.old
-            (span_facts (stream_choice self.old).ignored (event_place b.read b.n reached.text) (event_time b.n reached.text) (b.past ++ past_in reached.spans)
+            (span_facts (stream_choice self.old).ignored (event_place b.read b.n reached.text) (event_time b.n reached.text) (lost_in reached.profile b.n reached.events) (b.past ++ past_of reached)
             (moved_spans b.n (filter (is_untold (stream_choice self.old).ignored) (end_spans reached.standing end))))
             ++ stream_last_lines self.old (after_spans (stream_choice self.old).ignored b.counts (reached.spans ++ end_spans reached.standing end)))) }
         ensures kept { (b : Before) (reached : Reached) → StreamAt b self.old reached → Spells reached.text reached.events → Truncates reached end → IsNoneOutside reached end
             → OnOk result (KeepsFacts K.Keeps self.old keeper.old keeper.new
-            (span_facts (stream_choice self.old).ignored (event_place b.read b.n reached.text) (event_time b.n reached.text) (b.past ++ past_in reached.spans)
+            (span_facts (stream_choice self.old).ignored (event_place b.read b.n reached.text) (event_time b.n reached.text) (lost_in reached.profile b.n reached.events) (b.past ++ past_of reached)
             (moved_spans b.n (filter (is_untold (stream_choice self.old).ignored) (end_spans reached.standing end))))) }
         ensures tally { (b : Before) (reached : Reached) → StreamAt b self.old reached → Truncates reached end → IsNoneOutside reached end
             → OnOk result (CountsTally (after_spans (stream_choice self.old).ignored b.counts (reached.spans ++ end_spans reached.standing end)) (stream_tally self.new)) }

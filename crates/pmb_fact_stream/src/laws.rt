@@ -34,13 +34,13 @@ pub fn open_times_stay()
 /// Of the spans of an end those are told whose fact was out before: an other that is under way.
 /// What is put out at the end is the rest. All spans but an end inside a packet are told.
 pub fn others_are_told()
-    ensures facts { (ignored : Option (List ℕ)) (place : ℕ → Place) (times : ℕ → Option (List ℕ)) (before : List PastData) (m : ℕ) (reached : Reached) (end : Option Refusal)
+    ensures facts { (ignored : Option (List ℕ)) (place : ℕ → Place) (times : ℕ → Option (List ℕ)) (lost : ℕ → List Event → List PastData) (before : List PastData) (m : ℕ) (reached : Reached) (end : Option Refusal)
         → IsNoneOutside reached end
-        → span_facts ignored place times before (moved_spans m (filter (is_told ignored) (end_spans reached.standing end))) ≡ open_facts ignored place times m reached.standing }
-    ensures rest { (ignored : Option (List ℕ)) (place : ℕ → Place) (times : ℕ → Option (List ℕ)) (before : List PastData) (m : ℕ) (reached : Reached) (end : Option Refusal)
+        → span_facts ignored place times lost before (moved_spans m (filter (is_told ignored) (end_spans reached.standing end))) ≡ open_facts ignored place times m reached.standing }
+    ensures rest { (ignored : Option (List ℕ)) (place : ℕ → Place) (times : ℕ → Option (List ℕ)) (lost : ℕ → List Event → List PastData) (before : List PastData) (m : ℕ) (reached : Reached) (end : Option Refusal)
         → IsNoneOutside reached end
-        → open_facts ignored place times m reached.standing ++ span_facts ignored place times before (moved_spans m (filter (is_untold ignored) (end_spans reached.standing end)))
-        ≡ span_facts ignored place times before (moved_spans m (end_spans reached.standing end)) }
+        → open_facts ignored place times m reached.standing ++ span_facts ignored place times lost before (moved_spans m (filter (is_untold ignored) (end_spans reached.standing end)))
+        ≡ span_facts ignored place times lost before (moved_spans m (end_spans reached.standing end)) }
     ensures counts { (ignored : Option (List ℕ)) (c : CountsData) (reached : Reached) (end : Option Refusal) → IsNoneOutside reached end
         → after_spans ignored c (filter (is_told ignored) (end_spans reached.standing end)) ≡ after_open ignored c reached.standing }
     ensures whole { (ignored : Option (List ℕ)) (spans : List Span) → filter is_whole spans ≡ spans → filter (is_told ignored) spans ≡ spans }

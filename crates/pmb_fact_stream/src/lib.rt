@@ -31,6 +31,7 @@ mod packets;
 mod stream;
 mod telling;
 mod visits;
+mod writes;
 
 pub use choice::Choice;
 pub use kept_stream::KeptStream;

@@ -2,7 +2,8 @@
 //!
 //! A `Stream` outlasts the scans of a capture: where a word is no token and reading begins anew, it
 //! keeps its places and its counts. What the dropped line said of PAGE, PHASE and VOUT_MODE is not known:
-//! these are unknown again where its `Late` says so. So it is where a packet is refused.
+//! these are unknown again where its `Late` says so. So it is where a packet is refused in which devices
+//! may have been written to.
 //!
 //! Its rows: `tests/rows/json_objects.txt`.
 
@@ -16,11 +17,13 @@ ghost use Rattle.pmb_fact_stream.specs.Choice.{choice_data};
 ghost use Rattle.pmb_fact_stream.specs.Stream.{IsSame, StreamBegins, StreamKnows, stream_choice, stream_profile, stream_tally, stream_time};
 ghost use Rattle.pmb_fact_stream.specs.machine.Begun.{begun_head};
 ghost use Rattle.pmb_fact_stream.specs.machine.Knowing.{IsCleared, KeepsSame, KeepsTimes, stream_seen};
+ghost use Rattle.pmb_fact_stream.specs.machine.Losing.{IsFresh};
 ghost use Rattle.pmb_times.specs.Times.{TimesStandAt};
 
 use crate::choice::Choice;
 use crate::front::Front;
 use crate::open_time::OpenTime;
+use crate::writes::Writes;
 use arrayvec::ArrayVec;
 use pmb_io::Tally;
 use pmb_json_objects::{Counts, Head, Seen};
@@ -72,6 +75,8 @@ pub struct Stream<'p> {
     pub(crate) front: Front,
     /// Whether events are passed over, after a refusal.
     pub(crate) passing: bool,
+    /// Whether devices were written to in that packet, and in what is passed over.
+    pub(crate) writes: Writes,
 }
 
 impl<'p> Stream<'p> {
@@ -109,6 +114,7 @@ impl<'p> Stream<'p> {
             begun: ArrayVec::new(),
             front: Front::Nothing,
             passing: false,
+            writes: Writes::new(),
         }
     }
 
@@ -178,6 +184,7 @@ impl<'p> Stream<'p> {
     /// Forgets the packet under way.
     pub(crate) fn clear(&mut self)
         ensures cleared { IsCleared self.new }
+        ensures fresh { IsFresh self.new.writes }
         ensures knows { (b : Before) → StreamKnows b self.old → StreamKnows b self.new }
         ensures same { IsSame self.old self.new }
         ensures passing { self.new.passing ≡ self.old.passing }
@@ -186,6 +193,7 @@ impl<'p> Stream<'p> {
         self.said.begin();
         self.begun.clear();
         self.front = Front::Nothing;
+        self.writes = Writes::new();
     }
 
     /// What is known where the next packet begins.

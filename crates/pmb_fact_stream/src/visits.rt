@@ -2,17 +2,18 @@
 //!
 //! Its rows: `tests/rows/json_objects.txt`.
 
-ghost use Rattle.std.specs.Prelude.{◌≡◌, ◌<◌, ◌+◌, ◌∷◌, [], ◌++◌, ℕ, List, None, OnOk, Some, length, take};
+ghost use Rattle.std.specs.Prelude.{◌≡◌, ◌<◌, ◌+◌, ◌∷◌, [], ◌++◌, ◌&&◌, ℕ, List, None, OnOk, Some, is_some, length, not, take};
 ghost use Rattle.std.specs.List.{Contains};
 ghost use Rattle.pmb_bus.specs.declared.event.Event.{Event as BusEvent};
 ghost use Rattle.pmb_bus.specs.declared.event.Event.TheVariants.{Stop};
 ghost use Rattle.pmb_bus.specs.Event.{AreBytes, canonical_text};
 ghost use Rattle.pmb_bus.specs.Text.{EndsBetween, Spells};
+ghost use Rattle.pmb_command.specs.Parts.{DeviceParts};
 ghost use Rattle.pmb_io.specs.Count.{capped};
 ghost use Rattle.pmb_json_objects.specs.Counts.{after_packet, after_refusal};
 ghost use Rattle.pmb_places.specs.Places.{PlacesStandAt, place_of_last_word};
 ghost use Rattle.pmb_reader.specs.Reader.{behind_passed};
-ghost use Rattle.pmb_partial_packet.specs.PartialPacket.{said_device};
+ghost use Rattle.pmb_partial_packet.specs.PartialPacket.{reply, said_device};
 ghost use Rattle.pmb_partial_packet.specs.Standing.{SaidStandsAt};
 ghost use Rattle.pmb_scan.specs.Reached.{MayGoOn, Reached, behind_event, standing_after};
 ghost use Rattle.pmb_times.specs.Times.{TimesStandAt};
@@ -20,20 +21,22 @@ ghost use Rattle.pmb_transaction.specs.Capture.{Viable};
 ghost use Rattle.pmb_transaction.specs.Transaction.{transaction_data};
 ghost use Rattle.pmb_unknown_start.specs.Past.{Said};
 ghost use Rattle.pmb_fact_stream.specs.declared.kept_stream.KeptStream.{KeptStream as Kept};
-ghost use Rattle.pmb_fact_stream.specs.Before.{Before};
+ghost use Rattle.pmb_fact_stream.specs.Before.{Before, past_of, with_reached};
 ghost use Rattle.pmb_io.specs.Calls.{WriterTells};
 ghost use Rattle.pmb_io.specs.Engines.{PutsOut};
 ghost use Rattle.pmb_fact_stream.specs.Stream.{IsSame, StreamAt, StreamKnows, StreamStands, stream_choice, stream_profile};
-ghost use Rattle.pmb_fact_stream.specs.Spans.{dropped_if, is_start, is_to_none, loses, may_take};
+ghost use Rattle.pmb_fact_stream.specs.Lost.{dropped_if, has_write, heard};
 ghost use Rattle.pmb_fact_stream.specs.machine.Front.{front_of, other_begun_at};
 ghost use Rattle.pmb_fact_stream.specs.machine.Begun.{begun_behind};
-ghost use Rattle.pmb_fact_stream.specs.machine.Knowing.{IsCleared, KeepsPacket, KeepsSame, KeepsTimes, KeepsUnderWay, passes_on as passes_on_of};
+ghost use Rattle.pmb_fact_stream.specs.machine.Knowing.{IsCleared, KeepsSame, KeepsTimes, KeepsUnderWay, passes_on as passes_on_of};
+ghost use Rattle.pmb_fact_stream.specs.machine.Losing.{IsFresh, KnowsLost, WritesBehind, WritesStandAt};
 ghost use Rattle.pmb_fact_stream.specs.machine.OpenTime.{HasTime, KeepsTime};
 
 use crate::front::{Front, is_other};
 use crate::groups::is_group;
 use crate::kept_stream::KeptStream;
 use crate::stream::{Begun, STARTS, Stream};
+use crate::writes::Writes;
 use pmb_bus::Event;
 use pmb_bus::laws::texts_may_be_cut_between_words;
 use pmb_io::{RunFault, Sink, Waiting};
@@ -42,8 +45,8 @@ use pmb_places::laws::{texts_end_between_words, the_last_word_stands_there};
 use pmb_reader::Refusal;
 use pmb_scan::Visitor;
 use pmb_table::laws::accepted_bus;
+use pmb_transaction::Transaction;
 use pmb_transaction::laws::{packet_ends_with_stop, packets_are_bytes};
-use pmb_transaction::{Reason, Transaction};
 
 impl<'p> Stream<'p> {
     /// Takes an event that ends no packet, and is not refused.
@@ -54,17 +57,38 @@ impl<'p> Stream<'p> {
         ensures time { (text : List ℕ) (events : List BusEvent) → KeepsTime self.old.time text events → TimesStandAt self.old.times text
             → Spells text (events ++ event ∷ []) → KeepsTime self.new.time text (events ++ event ∷ []) }
         ensures times { self.new.times ≡ self.old.times }
-        ensures knows { (b : Before) → StreamKnows b self.old → StreamKnows b self.new }
+        ensures knows { (b : Before) (reached : Reached) → StreamAt b self.old reached → MayGoOn reached.standing event
+            → StreamKnows (record (with_reached (stream_choice self.old).ignored b reached) { past = b.past ++ past_of (behind_event reached event) }) self.new }
+        ensures loses { (b : Before) (reached : Reached) → StreamAt b self.old reached → MayGoOn reached.standing event
+            → KnowsLost self.new.writes (behind_event reached event) (standing_after reached.standing event) }
         ensures same { IsSame self.old self.new }
     {
         the_last_word_stands_there();
         self.time.begin(&self.times);
         self.time.take(event);
         if self.passing {
-            self.passing = passes_on(event);
+            self.pass(event);
         } else {
             self.keep(event);
         }
+    }
+
+    /// Takes an event that is passed over. With the first write in what is passed over, what is known of
+    /// PAGE, PHASE and VOUT_MODE is forgotten, if it was not where the packet was refused.
+    fn pass(&mut self, event: Event)
+        ensures knows { (b : Before) (taken : List BusEvent) → StreamKnows b self.old → WritesStandAt (stream_profile self.old) self.old.writes taken
+            → StreamKnows (record b { past = b.past ++ dropped_if (not (has_write (stream_profile self.old) taken) && has_write (stream_profile self.old) (taken ++ event ∷ [])) }) self.new }
+        ensures writes { (taken : List BusEvent) → WritesStandAt (stream_profile self.old) self.old.writes taken
+            → WritesBehind (stream_profile self.old) self.new.writes (taken ++ event ∷ []) event }
+        ensures passing { self.new.passing ≡ passes_on_of event }
+        ensures cleared { IsCleared self.old → IsCleared self.new }
+        ensures same { IsSame self.old self.new }
+        ensures times { KeepsTimes self.old self.new }
+    {
+        let writes = self.writes.after(event, self.profile);
+        self.lose(!self.writes.has_write && writes.has_write);
+        self.passing = passes_on(event);
+        self.writes = writes.behind(event);
     }
 
     /// Keeps what an event of the packet under way says.
@@ -75,6 +99,8 @@ impl<'p> Stream<'p> {
             → self.new.front ≡ front_of (stream_choice self.old).ignored (front ++ event ∷ []) }
         ensures begun { (text : List ℕ) → PlacesStandAt self.old.places text
             → self.new.begun.items ≡ begun_behind self.old.begun.items self.old.count (place_of_last_word text) event }
+        ensures writes { (events : List BusEvent) → WritesStandAt (stream_profile self.old) self.old.writes events
+            → WritesStandAt (stream_profile self.old) self.new.writes (events ++ event ∷ []) }
         ensures passing { self.new.passing ≡ self.old.passing }
         ensures times { KeepsTimes self.old self.new }
         ensures knows { (b : Before) → StreamKnows b self.old → StreamKnows b self.new }
@@ -82,6 +108,7 @@ impl<'p> Stream<'p> {
     {
         self.said.take(event);
         self.front = self.front.after(event, &self.choice);
+        self.writes = self.writes.after(event, self.profile);
         match event {
             Event::Start => self.keep_start(),
             Event::Byte(_) | Event::Ack | Event::Nack | Event::Stop => {}
@@ -95,6 +122,7 @@ impl<'p> Stream<'p> {
             → self.new.begun.items ≡ take 17 (self.old.begun.items ++ record { at = self.old.count; place = place_of_last_word text } ∷ []) }
         ensures said { self.new.said ≡ self.old.said }
         ensures front { self.new.front ≡ self.old.front }
+        ensures writes { self.new.writes ≡ self.old.writes }
         ensures passing { self.new.passing ≡ self.old.passing }
         ensures times { KeepsTimes self.old self.new }
         ensures knows { (b : Before) → StreamKnows b self.old → StreamKnows b self.new }
@@ -124,6 +152,7 @@ impl<'p> Stream<'p> {
         ensures knows { (b : Before) → StreamKnows b self.old
             → StreamKnows (record b { n = b.n + 1; past = b.past ++ Said (transaction_data transaction.now) ∷ []; counts = after_packet b.counts (transaction_data transaction.now) }) self.new }
         ensures cleared { IsCleared self.new }
+        ensures fresh { IsFresh self.new.writes }
         ensures same { IsSame self.old self.new }
         ensures passing { self.new.passing ≡ self.old.passing }
         ensures time { (text : List ℕ) (events : List BusEvent) → KeepsTime self.new.time text (events ++ Stop ∷ []) }
@@ -139,6 +168,7 @@ impl<'p> Stream<'p> {
         ensures knows { (b : Before) → StreamKnows b self.old
             → StreamKnows (record b { n = b.n + 1; past = b.past ++ Said (transaction_data transaction.now) ∷ [] }) self.new }
         ensures cleared { IsCleared self.new }
+        ensures fresh { IsFresh self.new.writes }
         ensures same { IsSame self.old self.new }
         ensures passing { self.new.passing ≡ self.old.passing }
         ensures time { (text : List ℕ) (events : List BusEvent) → KeepsTime self.new.time text (events ++ Stop ∷ []) }
@@ -169,90 +199,63 @@ impl<'p> Stream<'p> {
         self.count = self.count.saturating_add(count as u64);
     }
 
-    /// Counts a refusal, and takes the refused event.
-    fn take_refused(&mut self, event: Event, loses: bool)
+    /// Counts a refusal, and takes the refused event, with what devices were written then.
+    fn take_refused(&mut self, event: Event, writes: Writes)
         ensures knows { (b : Before) (front : List BusEvent) → StreamKnows b self.old → SaidStandsAt self.old.said front
-            → StreamKnows (record b { n = b.n + 1; past = b.past ++ dropped_if loses; counts = after_refusal b.counts (said_device front) }) self.new }
+            → StreamKnows (record b { n = b.n + 1; past = b.past ++ dropped_if writes.has_write; counts = after_refusal b.counts (said_device front) }) self.new }
+        ensures writes { (profile : List DeviceParts) (taken : List BusEvent) → WritesStandAt profile writes taken → WritesBehind profile self.new.writes taken event }
         ensures packet { (b : Before) (text : List ℕ) (n : ℕ) → KeepsUnderWay b self.new text (behind_passed n event) }
         ensures same { IsSame self.old self.new }
         ensures time { (text : List ℕ) (events : List BusEvent) → HasTime self.old.time text events → KeepsTime self.new.time text (events ++ event ∷ []) }
         ensures times { self.new.times ≡ self.old.times }
     {
         self.count_refusal();
-        self.pass_over(event, loses);
+        self.pass_over(event, writes);
     }
 
     /// Takes an event that is refused, the first that is passed over, and forgets the packet, with what
-    /// is known of PAGE, PHASE and VOUT_MODE if something may be lost there.
-    fn pass_over(&mut self, event: Event, loses: bool)
+    /// is known of PAGE, PHASE and VOUT_MODE if devices may have been written to.
+    fn pass_over(&mut self, event: Event, writes: Writes)
         ensures knows { (b : Before) → StreamKnows b self.old
-            → StreamKnows (record b { n = b.n + 1; past = b.past ++ dropped_if loses }) self.new }
+            → StreamKnows (record b { n = b.n + 1; past = b.past ++ dropped_if writes.has_write }) self.new }
+        ensures writes { (profile : List DeviceParts) (taken : List BusEvent) → WritesStandAt profile writes taken → WritesBehind profile self.new.writes taken event }
         ensures packet { (b : Before) (text : List ℕ) (n : ℕ) → KeepsUnderWay b self.new text (behind_passed n event) }
         ensures same { IsSame self.old self.new }
         ensures time { (text : List ℕ) (events : List BusEvent) → HasTime self.old.time text events → KeepsTime self.new.time text (events ++ event ∷ []) }
         ensures times { self.new.times ≡ self.old.times }
     {
-        self.lose(loses);
+        self.lose(writes.has_write);
         self.count_event();
         self.clear();
         self.time.take(event);
         self.passing = passes_on(event);
+        self.writes = writes.behind(event);
+    }
+
+    /// What devices were written with the event that is refused: by a reply, and by what said that it is to
+    /// be read, they weren't.
+    fn writes_with(&self, event: Event) -> Writes
+        ensures { (front : List BusEvent) → Viable (stream_profile self.now) front → SaidStandsAt self.now.said front → WritesStandAt (stream_profile self.now) self.now.writes front
+            → WritesStandAt (stream_profile self.now) result (heard (is_some (reply front)) front (event ∷ [])) }
+    {
+        let before = if self.said.reply().is_some() {
+            Writes::new()
+        } else {
+            self.writes
+        };
+        before.after(event, self.profile)
     }
 
     /// Forgets what is known of PAGE, PHASE and VOUT_MODE, if something may have been lost.
     fn lose(&mut self, loses: bool)
         ensures knows { (b : Before) → StreamKnows b self.old → StreamKnows (record b { past = b.past ++ dropped_if loses }) self.new }
         ensures same { IsSame self.old self.new }
+        ensures packet { KeepsSame self.old self.new }
         ensures times { KeepsTimes self.old self.new }
     {
         if loses {
             self.late.drop_line();
         }
-    }
-
-    /// Whether something may be lost where that event is refused.
-    fn loses(&self, event: Event, reason: Reason) -> bool
-        ensures { (b : Before) (text : List ℕ) (n : ℕ) (front : List BusEvent) → KeepsPacket b self.now text n front
-            → Viable (stream_profile self.now) front → result ≡ loses front event reason }
-    {
-        !self.is_to_none(reason) && self.may_take(event)
-    }
-
-    /// Whether the packet is told to no device of the profile, since its first address byte is refused.
-    fn is_to_none(&self, reason: Reason) -> bool
-        ensures { (b : Before) (text : List ℕ) (n : ℕ) (front : List BusEvent) → KeepsPacket b self.now text n front
-            → result ≡ is_to_none front reason }
-    {
-        match reason {
-            Reason::ReadFirst => true,
-            Reason::UnknownDevice => self.begun.len() == 1,
-            Reason::BadRestart
-            | Reason::BadPec
-            | Reason::UnknownCommand
-            | Reason::TooLong
-            | Reason::TooShort
-            | Reason::WrongEvent
-            | Reason::Truncated => false,
-        }
-    }
-
-    /// Whether devices may take something where that event is refused: not in a leg that is read, unless
-    /// a packet may begin there.
-    fn may_take(&self, event: Event) -> bool
-        ensures { (front : List BusEvent) → Viable (stream_profile self.now) front → SaidStandsAt self.now.said front
-            → result ≡ may_take front event }
-    {
-        is_start(event) || self.said.reply().is_none()
-    }
-}
-
-/// Whether it is START.
-fn is_start(event: Event) -> bool
-    ensures { result ≡ is_start event }
-{
-    match event {
-        Event::Start => true,
-        Event::Byte(_) | Event::Ack | Event::Nack | Event::Stop => false,
     }
 }
 
@@ -388,21 +391,21 @@ impl<'p, K: Keeper> Visitor for KeptStream<'p, K> {
         the_last_word_stands_there();
         let stream = &mut self.stream;
         let keeper = &mut self.keeper;
-        let loses = stream.loses(event, refusal.reason);
+        let writes = stream.writes_with(event);
         stream.time.begin(&stream.times);
         let place = stream.places.word();
         if let Some(addr) = stream.front.begins_other(event, &stream.choice) {
             stream.put_other(keeper, addr, place, waiting, writer)?;
             stream.counts.count_other(addr);
-            stream.pass_over(event, loses);
+            stream.pass_over(event, writes);
             return Ok(());
         }
         if let Front::Other = stream.front {
-            stream.pass_over(event, loses);
+            stream.pass_over(event, writes);
             return Ok(());
         }
         stream.put_refusal(keeper, Some(event), place, refusal, waiting, writer)?;
-        stream.take_refused(event, loses);
+        stream.take_refused(event, writes);
         Ok(())
     }
 }

@@ -10,6 +10,8 @@
 //! ```
 #![tactic(auto)]
 
+mod follow;
+mod lent;
 mod recording;
 mod whole;
 

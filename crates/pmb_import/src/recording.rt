@@ -7,6 +7,8 @@ ghost use Rattle.pmb_import.specs.Importing.{importing_of};
 ghost use Rattle.pmb_io.specs.Runs.{AsTool, Ran};
 ghost use Rattle.pmb_recorder.specs.Recorded.{OfBeagle, OfKernel, OfSaleae, OfSigrok, OfSmbus, recorded_of};
 
+use crate::follow::{follow, follow_smbus};
+use crate::lent::Lent;
 use pmb_beagle::Beagle;
 use pmb_io::{Sink, Source, Tally, ToolFault, each_line};
 use pmb_kernel::Kernel;
@@ -59,7 +61,12 @@ fn import_sigrok<R: Source, W: Sink>(
 ) -> Result<Tally, ToolFault>
     ensures { AsTool (Ran R.told W.told (importing_of (OfSigrok (option_copied bus.entry) rate form)) first.now (reader.old, writer.old) (reader.new, writer.new)) result }
 {
-    each_line::<Sigrok, R, W, MOST_LINE>(Sigrok::new(bus, rate, form), first, reader, writer)
+    let mut machine = Sigrok::new(None, rate, form);
+    follow(&mut machine.recording, bus);
+    let lent = Lent {
+        machine: &mut machine,
+    };
+    each_line::<Lent<'_, Sigrok>, R, W, MOST_LINE>(lent, first, reader, writer)
 }
 
 /// Writes the capture of a recording of Logic 2. Apart from the others, so that the stack holds one
@@ -73,7 +80,12 @@ fn import_saleae<R: Source, W: Sink>(
 ) -> Result<Tally, ToolFault>
     ensures { AsTool (Ran R.told W.told (importing_of (OfSaleae (option_copied bus.entry))) first.now (reader.old, writer.old) (reader.new, writer.new)) result }
 {
-    each_line::<Saleae, R, W, MOST_LINE>(Saleae::new(bus), first, reader, writer)
+    let mut machine = Saleae::new(None);
+    follow(&mut machine.recording, bus);
+    let lent = Lent {
+        machine: &mut machine,
+    };
+    each_line::<Lent<'_, Saleae>, R, W, MOST_LINE>(lent, first, reader, writer)
 }
 
 /// Writes the capture of a recording of Data Center. Apart from the others, so that the stack holds one
@@ -86,7 +98,11 @@ fn import_beagle<R: Source, W: Sink>(
 ) -> Result<Tally, ToolFault>
     ensures { AsTool (Ran R.told W.told (importing_of OfBeagle) first.now (reader.old, writer.old) (reader.new, writer.new)) result }
 {
-    each_line::<Beagle, R, W, MOST_LINE>(Beagle::new(), first, reader, writer)
+    let mut machine = Beagle::new();
+    let lent = Lent {
+        machine: &mut machine,
+    };
+    each_line::<Lent<'_, Beagle>, R, W, MOST_LINE>(lent, first, reader, writer)
 }
 
 /// Writes the capture of a recording of the kernel's events of `i2c`. Apart from the others, so that the stack holds one
@@ -100,7 +116,12 @@ fn import_kernel<R: Source, W: Sink>(
 ) -> Result<Tally, ToolFault>
     ensures { AsTool (Ran R.told W.told (importing_of (OfKernel (option_copied bus.entry))) first.now (reader.old, writer.old) (reader.new, writer.new)) result }
 {
-    each_line::<Kernel, R, W, MOST_LINE>(Kernel::new(bus), first, reader, writer)
+    let mut machine = Kernel::new(None);
+    follow(&mut machine.transfers.recording, bus);
+    let lent = Lent {
+        machine: &mut machine,
+    };
+    each_line::<Lent<'_, Kernel>, R, W, MOST_LINE>(lent, first, reader, writer)
 }
 
 /// Writes the capture of a recording of the kernel's events of `smbus`. Apart from the others, so that the stack holds one
@@ -114,5 +135,10 @@ fn import_smbus<R: Source, W: Sink>(
 ) -> Result<Tally, ToolFault>
     ensures { AsTool (Ran R.told W.told (importing_of (OfSmbus (option_copied bus.entry))) first.now (reader.old, writer.old) (reader.new, writer.new)) result }
 {
-    each_line::<Smbus, R, W, MOST_LINE>(Smbus::new(bus), first, reader, writer)
+    let mut machine = Smbus::new(None);
+    follow_smbus(&mut machine, bus);
+    let lent = Lent {
+        machine: &mut machine,
+    };
+    each_line::<Lent<'_, Smbus>, R, W, MOST_LINE>(lent, first, reader, writer)
 }

@@ -1,14 +1,13 @@
 //! A recording that is at hand as a whole.
 //!
-//! What is kept of a recording has up to 280 KB, so it is on the heap. It is made there by functions
+//! What is kept of a recording has up to 213 KB, so it is on the heap. It is made there by functions
 //! that are not inlined, of no bus, since a recording that follows one is put together on the stack.
 //!
 //! Its rows: `tests/rows/recordings.txt`.
 
-ghost use Rattle.std.specs.Prelude.{◌≡◌, ◌≤◌, IfSome, None, length, option_copied, take};
+ghost use Rattle.std.specs.Prelude.{◌≡◌, IfSome, None, option_copied};
 ghost use Rattle.pmb_import.specs.Importing.{importing_of};
 ghost use Rattle.pmb_recorder.specs.Recorded.{OfBeagle, OfKernel, OfSaleae, OfSigrok, OfSmbus, recorded_of};
-ghost use Rattle.pmb_recording.specs.Recording.{fresh};
 ghost use Rattle.pmb_beagle.specs.Packets as beagle;
 ghost use Rattle.pmb_kernel.specs.Transfers as kernel;
 ghost use Rattle.pmb_saleae.specs.Packets as saleae;
@@ -16,19 +15,17 @@ ghost use Rattle.pmb_sigrok.specs.Packets as sigrok;
 ghost use Rattle.pmb_smbus.specs.Transfers as smbus;
 ghost use Rattle.pmb_whole_input.specs.Whole.{WritesOrNoMemory};
 
+use crate::follow::{follow, follow_smbus};
 use pmb_beagle::Beagle;
 use pmb_io::{Sink, Tally, ToolFault};
 use pmb_kernel::Kernel;
 use pmb_recorder::{AddressForm, Rate, Recorder};
-use pmb_recording::{MOST_LINE, Recording};
+use pmb_recording::MOST_LINE;
 use pmb_saleae::Saleae;
 use pmb_sigrok::Sigrok;
 use pmb_smbus::Smbus;
 use pmb_whole_input::whole_lines;
 use std::alloc::Global;
-
-/// The most bytes of a name that is kept.
-const MOST_NAME: usize = 65540;
 
 /// Writes what [`import`](crate::import) writes of a recording. Nothing large stays on the stack.
 ///
@@ -192,35 +189,4 @@ fn boxed_smbus(alloc: Global) -> Option<Box<Smbus>>
         Ok(source) => Some(source),
         Err(_) => None,
     }
-}
-
-/// Follows the bus of this name, where one is named, from the start of a recording.
-fn follow(recording: &mut Recording, bus: Option<&[u8]>)
-    requires { recording.old ≡ fresh None }
-    ensures { recording.new ≡ fresh (option_copied bus.entry) }
-{
-    if let Some(name) = bus {
-        recording.follow(kept_name(name));
-    }
-}
-
-/// The same of a source whose recording is not at hand.
-fn follow_smbus(machine: &mut Smbus, bus: Option<&[u8]>)
-    requires { machine.old ≡ smbus.start None }
-    ensures { machine.new ≡ smbus.start (option_copied bus.entry) }
-{
-    if let Some(name) = bus {
-        machine.follow(kept_name(name));
-    }
-}
-
-/// The name of a bus, or so much of it that it is longer than a line still.
-fn kept_name(name: &[u8]) -> &[u8]
-    ensures name { result.now ≡ take MOST_NAME name.now }
-    ensures short { length result.now ≤ MOST_NAME }
-{
-    if name.len() > MOST_NAME {
-        return &name[..MOST_NAME];
-    }
-    name
 }

@@ -14,7 +14,7 @@ use Rattle.pmb_transaction.specs.Transaction.{PartData, RefusedData, Transaction
 use Rattle.pmb_transaction.specs.Transaction.{Write, Read, Call, Refused, Alert, NoAlert}
 use Rattle.pmb_unknown_start.specs.Past.{PastData, Said}
 use Rattle.pmb_fact_stream.specs.Others.{other_address}
-use Rattle.pmb_fact_stream.specs.Spans.{lost, other_or, past_in, refused_span, span_facts}
+use Rattle.pmb_fact_stream.specs.Spans.{other_or, past_in, refused_span, span_facts}
 use Rattle.pmb_json.proofs.EachOf.{each_of_both}
 
 module _ (Ok : List PastData → Type 0) (none : Ok []) where
@@ -55,33 +55,33 @@ module _ (Ok : List PastData → Type 0) (none : Ok []) where
     either_is m (Some addr) own are = (none, tt)
 
     -- if it holds of what went before them with each front of what they say
-    pub spans_are : (ignored : Option (List ℕ)) (past : List PastData) (spans : List Span)
-        → ((p q : List PastData) → past_in spans ≡ p ++ q → Ok (past ++ p))
-        → AllOk (span_facts ignored place times past spans)
-    spans_are ignored past [] ok = tt
-    spans_are ignored past (ReadSpan m events t ∷ spans) ok =
+    pub spans_are : (ignored : Option (List ℕ)) (lost : ℕ → List Event → List PastData) (past : List PastData)
+        (spans : List Span) → ((p q : List PastData) → past_in lost spans ≡ p ++ q → Ok (past ++ p))
+        → AllOk (span_facts ignored place times lost past spans)
+    spans_are ignored lost past [] ok = tt
+    spans_are ignored lost past (ReadSpan m events t ∷ spans) ok =
         let own = packet_facts past place (times m) m events t in
         each_of_both (λ (fact : FactData). Ok fact.before) (other_or place times m (other_address ignored events) own)
-        (span_facts ignored place times (past ++ Said t ∷ []) spans)
+        (span_facts ignored place times lost (past ++ Said t ∷ []) spans)
         (either_is m (other_address ignored events) own
-        (packet_is past (subst Ok (append-nil past) (ok [] (Said t ∷ past_in spans) refl)) (times m) m events t))
-        (spans_are ignored (past ++ Said t ∷ []) spans
+        (packet_is past (subst Ok (append-nil past) (ok [] (Said t ∷ past_in lost spans) refl)) (times m) m events t))
+        (spans_are ignored lost (past ++ Said t ∷ []) spans
         (λ p q is. subst Ok (sym (append_assoc past (Said t ∷ []) p))
         (ok (Said t ∷ p) q (ap (λ (l : List PastData). Said t ∷ l) is))))
-    spans_are ignored past (RefusedSpan m front event refusal ∷ spans) ok =
+    spans_are ignored lost past (RefusedSpan m front event refusal ∷ spans) ok =
         let own = refused_span place times past m front (Some event) refusal ∷ [] in
         let addr = other_address ignored (front ++ event ∷ []) in
-        let gone = lost front event refusal.reason in
+        let gone = lost m front in
         each_of_both (λ (fact : FactData). Ok fact.before) (other_or place times m addr own)
-        (span_facts ignored place times (past ++ gone) spans)
-        (either_is m addr own (subst Ok (append-nil past) (ok [] (gone ++ past_in spans) refl), tt))
-        (spans_are ignored (past ++ gone) spans
+        (span_facts ignored place times lost (past ++ gone) spans)
+        (either_is m addr own (subst Ok (append-nil past) (ok [] (gone ++ past_in lost spans) refl), tt))
+        (spans_are ignored lost (past ++ gone) spans
         (λ p q is. subst Ok (sym (append_assoc past gone p))
         (ok (gone ++ p) q (ap (λ (l : List PastData). gone ++ l) is ∙ sym (append_assoc gone p q)))))
-    spans_are ignored past (TruncatedSpan m front refusal ∷ spans) ok =
+    spans_are ignored lost past (TruncatedSpan m front refusal ∷ spans) ok =
         let own = refused_span place times past m front None refusal ∷ [] in
         let addr = other_address ignored front in
         each_of_both (λ (fact : FactData). Ok fact.before) (other_or place times m addr own)
-        (span_facts ignored place times past spans)
-        (either_is m addr own (subst Ok (append-nil past) (ok [] (past_in spans) refl), tt))
-        (spans_are ignored past spans ok)
+        (span_facts ignored place times lost past spans)
+        (either_is m addr own (subst Ok (append-nil past) (ok [] (past_in lost spans) refl), tt))
+        (spans_are ignored lost past spans ok)

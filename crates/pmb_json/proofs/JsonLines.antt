@@ -23,12 +23,13 @@ use Rattle.pmb_places.specs.Text.{place_behind}
 use Rattle.pmb_fact_stream.specs.Others.{is_told}
 use Rattle.pmb_fact_stream.specs.Before.{Before, at_first}
 use Rattle.pmb_fact_stream.specs.Choice.{ChoiceData, gives_others}
-use Rattle.pmb_fact_stream.specs.Spans.{past_in}
+use Rattle.pmb_fact_stream.specs.Lost.{lost_in}
 use Rattle.pmb_telling.specs.SoFar.{HasTold, IsOutOf, SoFarFrom}
 use Rattle.pmb_telling.specs.Text.{BadLine, FactsFrom, GoesOn, IsBadLine, WritesTold, bad_line_facts, behind_line}
-use Rattle.pmb_telling.specs.Text.{front_facts, word_fact, word_head}
+use Rattle.pmb_telling.specs.Text.{front_facts, past_before, word_fact, word_head}
 use Rattle.pmb_telling.proofs.Words.{each_of_word}
 use Rattle.pmb_unknown_start.specs.Past.{Dropped}
+use Rattle.pmb_json.proofs.Losses.{loses_one}
 use Rattle.pmb_json.proofs.EachOf.{each_filtered, each_of_both, each_of_first, each_of_second, each_taken}
 use Rattle.pmb_json.proofs.JsonSpans.{AllSayPackets, AreJson, Below, IsJson, SaysPacket, TellJson, few, place_fits}
 use Rattle.pmb_json.proofs.JsonSpans.{open_time_fits, spans_are_json, spans_say_packets, spans_tell_bytes}
@@ -108,13 +109,13 @@ module _ (below : Below) (choice : ChoiceData) (profile : List DeviceParts) (bus
         (each_filtered (SaysPacket profile) (is_told choice.ignored) is.all
         (spans_say_packets profile b.n bad.events is.all is.reads))
 
-    front_is_json : TellJson choice profile (front_facts choice.ignored b bad)
-    front_is_json = spans_are_json below choice profile bus formats b (bad.front ++ bad.line) b.past tell bad.spans
-        say_packets
+    front_is_json : TellJson choice profile (front_facts choice.ignored profile b bad)
+    front_is_json = spans_are_json below choice profile bus formats b (bad.front ++ bad.line)
+        (lost_in profile b.n bad.events) (loses_one profile b.n bad.events) b.past tell bad.spans say_packets
 
-    bad_line_is_json : AreBytes bad.line → TellJson choice profile (bad_line_facts choice.ignored b bad)
+    bad_line_is_json : AreBytes bad.line → TellJson choice profile (bad_line_facts choice.ignored profile b bad)
     bad_line_is_json small =
-        each_of_both_facts choice profile IsJson (front_facts choice.ignored b bad) (word_fact b bad ∷ [])
+        each_of_both_facts choice profile IsJson (front_facts choice.ignored profile b bad) (word_fact b bad ∷ [])
         front_is_json (
           below.bad_token (word_head b bad) (take 32 (front_word bad.line))
               (record {
@@ -126,22 +127,23 @@ module _ (below : Below) (choice : ChoiceData) (profile : List DeviceParts) (bus
           tt,
         )
 
-    behind_tells_bytes : AllTellBytes (behind_line choice.ignored b bad).past
+    behind_tells_bytes : AllTellBytes (behind_line choice.ignored profile b bad).past
     behind_tells_bytes =
-        each_of_both PastTellsBytes (b.past ++ past_in bad.spans) (Dropped ∷ [])
-        (each_of_both PastTellsBytes b.past (past_in bad.spans) tell
-        (spans_tell_bytes profile bad.spans say_packets)) (tt, tt)
+        each_of_both PastTellsBytes (b.past ++ past_before profile b bad) (Dropped ∷ [])
+        (each_of_both PastTellsBytes b.past (past_before profile b bad) tell
+        (spans_tell_bytes profile (lost_in profile b.n bad.events) (loses_one profile b.n bad.events) bad.spans
+        say_packets)) (tt, tt)
 
   -- ---- a whole text
 
   rest_is_json : (after : AfterBadToken) (b : Before) (bad : BadLine) (more : List BadLine) (rest : List ℕ)
       (others : List FactData) (counts : CountsData)
       → ((behind : List ℕ) → AreBytes behind
-      → FactsFrom choice.ignored profile Continue (behind_line choice.ignored b bad) behind more others
+      → FactsFrom choice.ignored profile Continue (behind_line choice.ignored profile b bad) behind more others
       counts → TellJson choice profile others) → AreBytes rest
       → GoesOn after rest
-      (λ behind. FactsFrom choice.ignored profile after (behind_line choice.ignored b bad) behind more others counts)
-      ((more ≡ []) × (others ≡ []) × (counts ≡ (behind_line choice.ignored b bad).counts))
+      (λ behind. FactsFrom choice.ignored profile after (behind_line choice.ignored profile b bad) behind more others counts)
+      ((more ≡ []) × (others ≡ []) × (counts ≡ (behind_line choice.ignored profile b bad).counts))
       → TellJson choice profile others
   rest_is_json End b bad more rest others counts later small is = subst (TellJson choice profile) (sym is.1) tt
   rest_is_json Continue b bad more [] others counts later small is = subst (TellJson choice profile) (sym is.1) tt
@@ -151,15 +153,16 @@ module _ (below : Below) (choice : ChoiceData) (profile : List DeviceParts) (bus
       (counts : CountsData) → AllTellBytes b.past → AreBytes bytes
       → FactsFrom choice.ignored profile after b bytes bad facts counts → TellJson choice profile facts
   facts_are_json after b bytes [] facts counts tell small reads =
-      subst (TellJson choice profile) (sym reads.all) (spans_are_json below choice profile bus formats b bytes b.past tell
+      subst (TellJson choice profile) (sym reads.all) (spans_are_json below choice profile bus formats b bytes
+      (lost_in profile b.n reads.events) (loses_one profile b.n reads.events) b.past tell
       reads.spans (spans_say_packets profile b.n reads.events reads.spans reads.reads))
   facts_are_json after b bytes (bad ∷ more) facts counts tell small reads =
       let cut = bytes_of bytes bad.front bad.line reads.0 reads.2 small in
       subst (TellJson choice profile) (sym reads.5)
-      (each_of_both_facts choice profile IsJson (bad_line_facts choice.ignored b bad) reads.1
+      (each_of_both_facts choice profile IsJson (bad_line_facts choice.ignored profile b bad) reads.1
       (bad_line_is_json b bad tell reads.4 cut.in_line)
       (rest_is_json after b bad more reads.0 reads.1 counts
-      (λ behind behind_small is. facts_are_json Continue (behind_line choice.ignored b bad) behind more reads.1 counts
+      (λ behind behind_small is. facts_are_json Continue (behind_line choice.ignored profile b bad) behind more reads.1 counts
       (behind_tells_bytes b bad tell reads.4) behind_small is) cut.behind reads.6))
 
   -- the lines of its objects, and of the last ones
@@ -178,7 +181,7 @@ module _ (below : Below) (choice : ChoiceData) (profile : List DeviceParts) (bus
 
   out_is_json : (b : Before) (bad : BadLine) (rest : List ℕ) (facts : List FactData) → AllTellBytes b.past
       → IsBadLine choice.ignored profile b bad → AreBytes bad.line
-      → IsOutOf choice.ignored b bad rest facts → TellJson choice profile facts
+      → IsOutOf choice.ignored profile b bad rest facts → TellJson choice profile facts
   out_is_json b bad rest facts tell is small (inl waits) =
       subst (TellJson choice profile) (sym waits.1) (front_is_json b bad tell is)
   out_is_json b bad rest facts tell is small (inr out) =
@@ -187,13 +190,13 @@ module _ (below : Below) (choice : ChoiceData) (profile : List DeviceParts) (bus
   rest_so_far_is_json : (after : AfterBadToken) (b : Before) (bad : BadLine) (more : List BadLine) (rest : List ℕ)
       (facts : List FactData)
       → ((behind : List ℕ) (others : List FactData) → AreBytes behind
-      → SoFarFrom choice.ignored profile Continue (behind_line choice.ignored b bad) behind more others
+      → SoFarFrom choice.ignored profile Continue (behind_line choice.ignored profile b bad) behind more others
       → TellJson choice profile others)
       → AllTellBytes b.past → IsBadLine choice.ignored profile b bad → AreBytes bad.line → AreBytes rest
       → GoesOn after rest (λ behind. (others : List FactData)
-      × (facts ≡ bad_line_facts choice.ignored b bad ++ others)
-      × SoFarFrom choice.ignored profile after (behind_line choice.ignored b bad) behind more others)
-      ((more ≡ []) × IsOutOf choice.ignored b bad rest facts)
+      × (facts ≡ bad_line_facts choice.ignored profile b bad ++ others)
+      × SoFarFrom choice.ignored profile after (behind_line choice.ignored profile b bad) behind more others)
+      ((more ≡ []) × IsOutOf choice.ignored profile b bad rest facts)
       → TellJson choice profile facts
   rest_so_far_is_json End b bad more rest facts later tell is line small so_far =
       out_is_json b bad rest facts tell is line so_far.1
@@ -201,7 +204,7 @@ module _ (below : Below) (choice : ChoiceData) (profile : List DeviceParts) (bus
       out_is_json b bad [] facts tell is line so_far.1
   rest_so_far_is_json Continue b bad more (lf ∷ bytes) facts later tell is line small so_far =
       subst (TellJson choice profile) (sym so_far.1)
-      (each_of_both_facts choice profile IsJson (bad_line_facts choice.ignored b bad) so_far.0
+      (each_of_both_facts choice profile IsJson (bad_line_facts choice.ignored profile b bad) so_far.0
       (bad_line_is_json b bad tell is line) (later bytes so_far.0 small.1 so_far.2))
 
   so_far_is_json : (after : AfterBadToken) (b : Before) (bytes : List ℕ) (bad : List BadLine) (facts : List FactData)
@@ -209,13 +212,14 @@ module _ (below : Below) (choice : ChoiceData) (profile : List DeviceParts) (bus
       → SoFarFrom choice.ignored profile after b bytes bad facts → TellJson choice profile facts
   so_far_is_json after b bytes [] facts tell small reads =
       subst (TellJson choice profile) (sym reads.all)
-      (spans_are_json below choice profile bus formats b bytes b.past tell (filter (is_told choice.ignored) reads.spans)
+      (spans_are_json below choice profile bus formats b bytes (lost_in profile b.n reads.events)
+      (loses_one profile b.n reads.events) b.past tell (filter (is_told choice.ignored) reads.spans)
       (each_filtered (SaysPacket profile) (is_told choice.ignored) reads.spans
       (spans_say_packets profile b.n reads.events reads.spans reads.reads)))
   so_far_is_json after b bytes (bad ∷ more) facts tell small reads =
       let cut = bytes_of bytes bad.front bad.line reads.0 reads.1 small in
       rest_so_far_is_json after b bad more reads.0 facts
-      (λ behind others behind_small is. so_far_is_json Continue (behind_line choice.ignored b bad) behind more others
+      (λ behind others behind_small is. so_far_is_json Continue (behind_line choice.ignored profile b bad) behind more others
       (behind_tells_bytes b bad tell reads.3) behind_small is)
       tell reads.3 cut.in_line cut.behind reads.5
 

@@ -33,7 +33,8 @@ use Rattle.pmb_fact_stream.specs.Before.{Before}
 use Rattle.pmb_fact_stream.specs.Choice.{ChoiceData}
 use Rattle.pmb_fact_stream.specs.Others.{other_address}
 use Rattle.pmb_fact_stream.specs.Lines.{seen_behind}
-use Rattle.pmb_fact_stream.specs.Spans.{dropped_if, event_place, event_time, loses, lost, other_or, past_in}
+use Rattle.pmb_fact_stream.specs.Lost.{dropped_if}
+use Rattle.pmb_fact_stream.specs.Spans.{event_place, event_time, other_or, past_in}
 use Rattle.pmb_fact_stream.specs.Spans.{refused_span, span_facts}
 use Rattle.pmb_fact_stream.specs.UnderWay.{open_time, time_of_some, under_way, up_to_stop}
 use Rattle.pmb_times.specs.Line.{IsTime as IsPlainTime}
@@ -43,6 +44,7 @@ use Rattle.pmb_transaction.specs.Packet.{Packet}
 use Rattle.pmb_transaction.specs.Reading.{RefusalData}
 use Rattle.pmb_transaction.specs.Transaction.{TransactionData}
 use Rattle.pmb_unknown_start.specs.Past.{PastData, Said}
+use Rattle.pmb_json.proofs.Losses.{LosesOne}
 use Rattle.pmb_json.proofs.EachOf.{each_of_both, of_any, the_one_at}
 use Rattle.pmb_json.proofs.Fitting.{device_is_seen, packet_fits}
 use Rattle.pmb_json.proofs.Objects.{PacketsHaveObjects, each_of_both_facts, packet_is}
@@ -136,17 +138,19 @@ module _ (profile : List DeviceParts) where
   dropped_tells_bytes false = tt
 
   -- what is lost at a refusal is no transaction
-  pub lost_tells_bytes : (front : List Event) (event : Event) (reason : Reason) → AllTellBytes (lost front event reason)
-  lost_tells_bytes front event reason = dropped_tells_bytes (loses front event reason)
+  pub lost_tells_bytes : (lost : ℕ → List Event → List PastData) → LosesOne lost → (at : ℕ) (front : List Event)
+      → AllTellBytes (lost at front)
+  lost_tells_bytes lost one at front = subst AllTellBytes (sym (one at front).1) (dropped_tells_bytes (one at front).0)
 
-  pub spans_tell_bytes : (spans : List Span) → AllSayPackets spans → AllTellBytes (past_in spans)
-  spans_tell_bytes [] say = tt
-  spans_tell_bytes (ReadSpan n events t ∷ spans) say =
-      (packets_tell_bytes profile t events say.0, spans_tell_bytes spans say.1)
-  spans_tell_bytes (RefusedSpan n front event refusal ∷ spans) say =
-      each_of_both PastTellsBytes (lost front event refusal.reason) (past_in spans) (lost_tells_bytes front event refusal.reason)
-      (spans_tell_bytes spans say.1)
-  spans_tell_bytes (TruncatedSpan n front refusal ∷ spans) say = spans_tell_bytes spans say.1
+  pub spans_tell_bytes : (lost : ℕ → List Event → List PastData) → LosesOne lost → (spans : List Span)
+      → AllSayPackets spans → AllTellBytes (past_in lost spans)
+  spans_tell_bytes lost one [] say = tt
+  spans_tell_bytes lost one (ReadSpan n events t ∷ spans) say =
+      (packets_tell_bytes profile t events say.0, spans_tell_bytes lost one spans say.1)
+  spans_tell_bytes lost one (RefusedSpan n front event refusal ∷ spans) say =
+      each_of_both PastTellsBytes (lost n front) (past_in lost spans) (lost_tells_bytes lost one n front)
+      (spans_tell_bytes lost one spans say.1)
+  spans_tell_bytes lost one (TruncatedSpan n front refusal ∷ spans) say = spans_tell_bytes lost one spans say.1
 
 -- ---- their objects
 
@@ -157,7 +161,7 @@ TellJson choice profile facts = AreJson (objects_of choice profile facts)
 module _ (below : Below) (choice : ChoiceData) (profile : List DeviceParts) (bus : IsBus profile)
     (formats : AllMakeFormats profile) where
   module _ (place : ℕ → Place) (placed : (at : ℕ) → IsPlace (place at)) (times : ℕ → Option (List ℕ))
-      (timed : (at : ℕ) → IsTime (times at)) where
+      (timed : (at : ℕ) → IsTime (times at)) (lost : ℕ → List Event → List PastData) (one : LosesOne lost) where
     refusal_is_json : (before : List PastData) → AllTellBytes before
         → (n : ℕ) (front : List Event) (event : Option Event) (refusal : RefusalData)
         → TellJson choice profile (refused_span place times before n front event refusal ∷ [])
@@ -189,13 +193,13 @@ module _ (below : Below) (choice : ChoiceData) (profile : List DeviceParts) (bus
         (packet_fits choice profile bus formats before tell t events packet))
 
     facts_are_json : (before : List PastData) → AllTellBytes before → (spans : List Span)
-        → AllSayPackets profile spans → TellJson choice profile (span_facts choice.ignored place times before spans)
+        → AllSayPackets profile spans → TellJson choice profile (span_facts choice.ignored place times lost before spans)
     facts_are_json before tell [] say = tt
     facts_are_json before tell (ReadSpan n events t ∷ spans) say =
         let own = packet_facts before place (times n) n events t in
         let addr = other_address choice.ignored events in
         each_of_both_facts choice profile IsJson (other_or place times n addr own)
-        (span_facts choice.ignored place times (before ++ Said t ∷ []) spans)
+        (span_facts choice.ignored place times lost (before ++ Said t ∷ []) spans)
         (either_is_json n addr own (packet_is_json before tell n events t say.0))
         (facts_are_json (before ++ Said t ∷ []) (each_of_both PastTellsBytes before (Said t ∷ []) tell
         (packets_tell_bytes profile t events say.0, tt)) spans say.1)
@@ -203,23 +207,23 @@ module _ (below : Below) (choice : ChoiceData) (profile : List DeviceParts) (bus
         let own = refused_span place times before n front (Some event) refusal ∷ [] in
         let addr = other_address choice.ignored (front ++ event ∷ []) in
         each_of_both_facts choice profile IsJson (other_or place times n addr own)
-        (span_facts choice.ignored place times (before ++ lost front event refusal.reason) spans)
+        (span_facts choice.ignored place times lost (before ++ lost n front) spans)
         (either_is_json n addr own (refusal_is_json before tell n front (Some event) refusal))
-        (facts_are_json (before ++ lost front event refusal.reason)
-        (each_of_both PastTellsBytes before (lost front event refusal.reason) tell
-        (lost_tells_bytes profile front event refusal.reason)) spans say.1)
+        (facts_are_json (before ++ lost n front)
+        (each_of_both PastTellsBytes before (lost n front) tell
+        (lost_tells_bytes profile lost one n front)) spans say.1)
     facts_are_json before tell (TruncatedSpan n front refusal ∷ spans) say =
         let own = refused_span place times before n front None refusal ∷ [] in
         let addr = other_address choice.ignored front in
         each_of_both_facts choice profile IsJson (other_or place times n addr own)
-        (span_facts choice.ignored place times before spans)
+        (span_facts choice.ignored place times lost before spans)
         (either_is_json n addr own (refusal_is_json before tell n front None refusal))
         (facts_are_json before tell spans say.1)
 
   -- of a text that stands after what was read
-  pub spans_are_json : (b : Before) (text : List ℕ) (before : List PastData) → AllTellBytes before
-      → (spans : List Span) → AllSayPackets profile spans
-      → TellJson choice profile (text_facts choice.ignored b text before spans)
-  spans_are_json b text before tell spans say =
+  pub spans_are_json : (b : Before) (text : List ℕ) (lost : ℕ → List Event → List PastData) → LosesOne lost
+      → (before : List PastData) → AllTellBytes before → (spans : List Span) → AllSayPackets profile spans
+      → TellJson choice profile (text_facts choice.ignored b text lost before spans)
+  spans_are_json b text lost one before tell spans say =
       facts_are_json (event_place b.read b.n text) (events_are_placed below b.read b.n text)
-      (event_time b.n text) (λ at. times_fit below text (at - b.n)) before tell spans say
+      (event_time b.n text) (λ at. times_fit below text (at - b.n)) lost one before tell spans say

@@ -1,3 +1,4 @@
+pub mod Losses
 pub mod Objects
 pub mod PieceMembers
 pub mod Pieces
@@ -13,3 +14,4 @@ pub mod TimeBytes
 pub mod Fitting
 pub mod JsonSpans
 pub mod JsonLines
+pub mod OnBus

@@ -42,8 +42,8 @@ module _ (timing : Timing) (choice : ChoiceData) (profile : List DeviceParts) (O
     both = λ a b c d first second ok. both_say_no_more timing profile choice (all_known choice) a b c d
         (first (each_of_first (λ (fact : FactData). Ok fact.before) a c ok))
         (second (each_of_second (λ (fact : FactData). Ok fact.before) a c ok));
-    spans = λ place there times theirs x y is tells spans ok.
+    spans = λ place there times theirs lost gone one same x y is tells spans ok.
         spans_said of_packets timing choice profile choice.start AllKnown (IsAfter before) Ok stand place there times
-        theirs m spans x y tells is ok;
+        theirs lost gone one m same spans x y tells is ok;
     word = λ head there tells word ok. (token_said timing head there tells (take 32 word), tt);
   }

@@ -48,11 +48,13 @@ use Rattle.pmb_json_objects.specs.Refusals.{said_device_members, written_members
 use Rattle.pmb_json_objects.specs.Seen.{SeenData, basis_at}
 use Rattle.pmb_fact_stream.specs.Others.{other_address}
 use Rattle.pmb_fact_stream.specs.Lines.{seen_behind}
-use Rattle.pmb_fact_stream.specs.Spans.{dropped_if, loses, lost, other_or, refused_span, span_facts}
+use Rattle.pmb_fact_stream.specs.Lost.{dropped_if}
+use Rattle.pmb_fact_stream.specs.Spans.{other_or, refused_span, span_facts}
 use Rattle.pmb_facts.specs.Fact.{FactData}
 use Rattle.pmb_facts.specs.Packets.{packet_facts, refused_fact, refused_facts, write_facts}
 use Rattle.pmb_transaction.specs.Reading.{RefusalData}
 use Rattle.pmb_json.proofs.EachOf.{each_of_first, each_of_second}
+use Rattle.pmb_json.proofs.Losses.{LoseTheSame, LosesOne}
 use Rattle.pmb_json.proofs.Objects.{PacketsHaveObjects, packet_is}
 use Rattle.pmb_json.proofs.PieceMembers.{TellEach, Tells, both, data_said, entry_said, head_said}
 use Rattle.pmb_json.proofs.PieceMembers.{of_device_command_said, same}
@@ -317,7 +319,8 @@ pub record StandBeside (profile : List DeviceParts) (a b : LateStart) (Beside : 
 module _ (of_packets : PacketsHaveObjects) (timing : Timing) (choice : ChoiceData) (profile : List DeviceParts)
     (a b : LateStart) (Pasts : List PastData → List PastData → Type 0) (Ok : List PastData → Type 0)
     (stand : StandBeside profile a b Pasts Ok)
-    (place there : ℕ → Place) (times theirs : ℕ → Option (List ℕ)) where
+    (place there : ℕ → Place) (times theirs : ℕ → Option (List ℕ))
+    (lost gone : ℕ → List Event → List PastData) where
   abbrev in_piece : ChoiceData
   in_piece = record choice { start = a }
 
@@ -428,21 +431,21 @@ module _ (of_packets : PacketsHaveObjects) (timing : Timing) (choice : ChoiceDat
   refused_said_in : (n m : ℕ) (front : List Event) (event : Option Event) (refusal : RefusalData) (events : List Event)
       (spans : List Span) (x y u v : List PastData) → TellEach timing n times theirs → Pasts x y
       → AllOk (other_or place times m (other_address choice.ignored events)
-      (refused_span place times x m front event refusal ∷ []) ++ span_facts choice.ignored place times u spans)
-      → Beside (span_facts choice.ignored place times u spans)
-      (span_facts choice.ignored there theirs v (moved_spans n spans))
+      (refused_span place times x m front event refusal ∷ []) ++ span_facts choice.ignored place times lost u spans)
+      → Beside (span_facts choice.ignored place times lost u spans)
+      (span_facts choice.ignored there theirs gone v (moved_spans n spans))
       → Beside (other_or place times m (other_address choice.ignored events)
-      (refused_span place times x m front event refusal ∷ []) ++ span_facts choice.ignored place times u spans)
+      (refused_span place times x m front event refusal ∷ []) ++ span_facts choice.ignored place times lost u spans)
       (other_or there theirs (n + m) (other_address choice.ignored events)
       (refused_span there theirs y (n + m) front event refusal ∷ [])
-      ++ span_facts choice.ignored there theirs v (moved_spans n spans))
+      ++ span_facts choice.ignored there theirs gone v (moved_spans n spans))
   refused_said_in n m front event refusal events spans x y u v told pasts ok others =
       let addr = other_address choice.ignored events in
       let own = refused_span place times x m front event refusal ∷ [] in
       let beside = refused_span there theirs y (n + m) front event refusal ∷ [] in
       both_say_no_more timing profile in_piece in_whole (other_or place times m addr own)
-      (other_or there theirs (n + m) addr beside) (span_facts choice.ignored place times u spans)
-      (span_facts choice.ignored there theirs v (moved_spans n spans))
+      (other_or there theirs (n + m) addr beside) (span_facts choice.ignored place times lost u spans)
+      (span_facts choice.ignored there theirs gone v (moved_spans n spans))
       (either_said m (n + m) addr own beside (told m)
       (λ here. (
         refusal_said timing choice.digits profile a b x y (stand.agree x y pasts here.0)
@@ -451,7 +454,7 @@ module _ (of_packets : PacketsHaveObjects) (timing : Timing) (choice : ChoiceDat
         tt,
       ))
       (each_of_first (λ (fact : FactData). Ok fact.before) (other_or place times m addr own)
-      (span_facts choice.ignored place times u spans) ok))
+      (span_facts choice.ignored place times lost u spans) ok))
       others
 
   -- what is known of the facts after those of a span
@@ -466,33 +469,37 @@ module _ (of_packets : PacketsHaveObjects) (timing : Timing) (choice : ChoiceDat
       subst (λ (past : List PastData). Pasts past (y ++ [])) (sym (append-nil x))
       (subst (λ (past : List PastData). Pasts x past) (sym (append-nil y)) pasts)
 
-  pub spans_said : (n : ℕ) (spans : List Span) (x y : List PastData) → TellEach timing n times theirs → Pasts x y
-      → AllOk (span_facts choice.ignored place times x spans)
-      → Beside (span_facts choice.ignored place times x spans)
-      (span_facts choice.ignored there theirs y (moved_spans n spans))
-  spans_said n [] x y told pasts ok = tt
-  spans_said n (ReadSpan m events t ∷ spans) x y told pasts ok =
+  pub spans_said : LosesOne lost → (n : ℕ) → LoseTheSame n lost gone → (spans : List Span) (x y : List PastData)
+      → TellEach timing n times theirs → Pasts x y
+      → AllOk (span_facts choice.ignored place times lost x spans)
+      → Beside (span_facts choice.ignored place times lost x spans)
+      (span_facts choice.ignored there theirs gone y (moved_spans n spans))
+  spans_said one n same_lost [] x y told pasts ok = tt
+  spans_said one n same_lost (ReadSpan m events t ∷ spans) x y told pasts ok =
       let addr = other_address choice.ignored events in
       let own = packet_facts x place (times m) m events t in
       let beside = packet_facts y there (theirs (n + m)) (n + m) events t in
-      let others = span_facts choice.ignored place times (x ++ Said t ∷ []) spans in
+      let others = span_facts choice.ignored place times lost (x ++ Said t ∷ []) spans in
       both_say_no_more timing profile in_piece in_whole (other_or place times m addr own)
       (other_or there theirs (n + m) addr beside) others
-      (span_facts choice.ignored there theirs (y ++ Said t ∷ []) (moved_spans n spans))
+      (span_facts choice.ignored there theirs gone (y ++ Said t ∷ []) (moved_spans n spans))
       (either_said m (n + m) addr own beside (told m) (packet_beside m (n + m) events t x y (told m) pasts)
       (each_of_first (λ (fact : FactData). Ok fact.before) (other_or place times m addr own) others ok))
-      (spans_said n spans (x ++ Said t ∷ []) (y ++ Said t ∷ []) told (stand.step x y t pasts)
+      (spans_said one n same_lost spans (x ++ Said t ∷ []) (y ++ Said t ∷ []) told (stand.step x y t pasts)
       (after_own (other_or place times m addr own) others ok))
-  spans_said n (RefusedSpan m front event refusal ∷ spans) x y told pasts ok =
+  spans_said one n same_lost (RefusedSpan m front event refusal ∷ spans) x y told pasts ok =
       let own = other_or place times m (other_address choice.ignored (front ++ event ∷ []))
       (refused_span place times x m front (Some event) refusal ∷ []) in
-      let u = x ++ lost front event refusal.reason in
-      let v = y ++ lost front event refusal.reason in
+      let u = x ++ lost m front in
+      let v = y ++ gone (n + m) front in
+      let beside = subst (λ (past : List PastData). Pasts u (y ++ past)) (sym (same_lost m front))
+      (subst (λ (past : List PastData). Pasts (x ++ past) (y ++ past)) (sym (one m front).1)
+      (dropped_beside x y (one m front).0 pasts)) in
       refused_said_in n m front (Some event) refusal (front ++ event ∷ []) spans x y u v told pasts ok
-      (spans_said n spans u v told (dropped_beside x y (loses front event refusal.reason) pasts)
-      (after_own own (span_facts choice.ignored place times u spans) ok))
-  spans_said n (TruncatedSpan m front refusal ∷ spans) x y told pasts ok =
+      (spans_said one n same_lost spans u v told beside
+      (after_own own (span_facts choice.ignored place times lost u spans) ok))
+  spans_said one n same_lost (TruncatedSpan m front refusal ∷ spans) x y told pasts ok =
       let own = other_or place times m (other_address choice.ignored front)
       (refused_span place times x m front None refusal ∷ []) in
       refused_said_in n m front None refusal front spans x y x y told pasts ok
-      (spans_said n spans x y told pasts (after_own own (span_facts choice.ignored place times x spans) ok))
+      (spans_said one n same_lost spans x y told pasts (after_own own (span_facts choice.ignored place times lost x spans) ok))

@@ -13,7 +13,7 @@ use Rattle.pmb_spans.specs.Spans.{Span, ReadSpan, RefusedSpan, TruncatedSpan, mo
 use Rattle.pmb_transaction.specs.Transaction.{PartData, RefusedData, TransactionData}
 use Rattle.pmb_transaction.specs.Transaction.{Write, Read, Call, Refused, Alert, NoAlert}
 use Rattle.pmb_fact_stream.specs.Others.{other_address}
-use Rattle.pmb_fact_stream.specs.Spans.{lost, other_or, refused_span, span_facts}
+use Rattle.pmb_fact_stream.specs.Spans.{other_or, refused_span, span_facts}
 use Rattle.pmb_unknown_start.specs.Past.{PastData, Said}
 use Rattle.pmb_json.specs.Cut.{said_in}
 use Rattle.pmb_json.specs.Pieces.{Timing}
@@ -77,7 +77,8 @@ module _ (x y : List PastData) (place there : ℕ → Place) (time theirs : Opti
 
 -- ---- spans
 
-module _ (ignored : Option (List ℕ)) (place there : ℕ → Place) (times theirs : ℕ → Option (List ℕ)) where
+module _ (ignored : Option (List ℕ)) (place there : ℕ → Place) (times theirs : ℕ → Option (List ℕ))
+    (lost gone : ℕ → List Event → List PastData) where
   -- an other, or these facts
   either_says : (m n : ℕ) (addr : Option ℕ) (own beside : List FactData) → said_in own ≡ said_in beside
       → said_in (other_or place times m addr own) ≡ said_in (other_or there theirs n addr beside)
@@ -86,16 +87,16 @@ module _ (ignored : Option (List ℕ)) (place there : ℕ → Place) (times thei
 
   -- those of spans that are moved
   pub spans_say : (n : ℕ) (spans : List Span) (x y : List PastData)
-      → said_in (span_facts ignored place times x spans)
-      ≡ said_in (span_facts ignored there theirs y (moved_spans n spans))
+      → said_in (span_facts ignored place times lost x spans)
+      ≡ said_in (span_facts ignored there theirs gone y (moved_spans n spans))
   spans_say n [] x y = refl
   spans_say n (ReadSpan m events t ∷ spans) x y =
       let addr = other_address ignored events in
       let own = packet_facts x place (times m) m events t in
       let beside = packet_facts y there (theirs (n + m)) (n + m) events t in
       both_say_the_same (other_or place times m addr own) (other_or there theirs (n + m) addr beside)
-      (span_facts ignored place times (x ++ Said t ∷ []) spans)
-      (span_facts ignored there theirs (y ++ Said t ∷ []) (moved_spans n spans))
+      (span_facts ignored place times lost (x ++ Said t ∷ []) spans)
+      (span_facts ignored there theirs gone (y ++ Said t ∷ []) (moved_spans n spans))
       (either_says m (n + m) addr own beside
       (packet_says x y place there (times m) (theirs (n + m)) m (n + m) events t))
       (spans_say n spans (x ++ Said t ∷ []) (y ++ Said t ∷ []))
@@ -104,24 +105,25 @@ module _ (ignored : Option (List ℕ)) (place there : ℕ → Place) (times thei
       let own = refused_span place times x m front (Some event) refusal ∷ [] in
       let beside = refused_span there theirs y (n + m) front (Some event) refusal ∷ [] in
       both_say_the_same (other_or place times m addr own) (other_or there theirs (n + m) addr beside)
-      (span_facts ignored place times (x ++ lost front event refusal.reason) spans)
-      (span_facts ignored there theirs (y ++ lost front event refusal.reason) (moved_spans n spans))
+      (span_facts ignored place times lost (x ++ lost m front) spans)
+      (span_facts ignored there theirs gone (y ++ gone (n + m) front) (moved_spans n spans))
       (either_says m (n + m) addr own beside refl)
-      (spans_say n spans (x ++ lost front event refusal.reason) (y ++ lost front event refusal.reason))
+      (spans_say n spans (x ++ lost m front) (y ++ gone (n + m) front))
   spans_say n (TruncatedSpan m front refusal ∷ spans) x y =
       let addr = other_address ignored front in
       let own = refused_span place times x m front None refusal ∷ [] in
       let beside = refused_span there theirs y (n + m) front None refusal ∷ [] in
       both_say_the_same (other_or place times m addr own) (other_or there theirs (n + m) addr beside)
-      (span_facts ignored place times x spans) (span_facts ignored there theirs y (moved_spans n spans))
+      (span_facts ignored place times lost x spans) (span_facts ignored there theirs gone y (moved_spans n spans))
       (either_says m (n + m) addr own beside refl) (spans_say n spans x y)
 
 -- those of the same spans, elsewhere
 pub spans_say_anywhere : (ignored : Option (List ℕ)) (place there : ℕ → Place) (times theirs : ℕ → Option (List ℕ))
-    (spans : List Span) (x y : List PastData)
-    → said_in (span_facts ignored place times x spans) ≡ said_in (span_facts ignored there theirs y spans)
-spans_say_anywhere ignored place there times theirs spans x y =
-    spans_say ignored place place times times 0 spans x x ∙ sym (spans_say ignored there place theirs times 0 spans y x)
+    (lost gone : ℕ → List Event → List PastData) (spans : List Span) (x y : List PastData)
+    → said_in (span_facts ignored place times lost x spans) ≡ said_in (span_facts ignored there theirs gone y spans)
+spans_say_anywhere ignored place there times theirs lost gone spans x y =
+    spans_say ignored place place times times lost lost 0 spans x x
+    ∙ sym (spans_say ignored there place theirs times gone lost 0 spans y x)
 
 -- ---- across a cut
 
@@ -133,6 +135,7 @@ pub same_across : (ignored : Option (List ℕ)) (timing : Timing) (m : ℕ) (bef
 same_across ignored timing m before = record {
   none = refl;
   both = both_say_the_same;
-  spans = λ place there times theirs x y is tells spans. spans_say ignored place there times theirs m spans x y;
+  spans = λ place there times theirs lost gone one same x y is tells spans.
+      spans_say ignored place there times theirs lost gone m spans x y;
   word = λ head there tells word. refl;
 }

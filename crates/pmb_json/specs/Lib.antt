@@ -3,3 +3,4 @@ pub mod Pieces
 pub mod Mended
 pub mod Cut
 pub mod Lines
+pub mod OnBus

@@ -16,6 +16,7 @@ use Rattle.pmb_spans.specs.Spans.{Span, Spans}
 use Rattle.pmb_transaction.specs.Cut.{EndsWithStop}
 use Rattle.pmb_json_objects.specs.Object.{Object}
 use Rattle.pmb_fact_stream.specs.Choice.{ChoiceData}
+use Rattle.pmb_fact_stream.specs.Lost.{lost_in}
 use Rattle.pmb_fact_stream.specs.Spans.{past_in}
 
 -- the same choice, where all is known at first
@@ -93,7 +94,7 @@ pub record CanBeCutBehind (profile : List DeviceParts) (start : Start) (front : 
   pub between : EndsBetween front
   pub reads : Spans profile events spans
   pub told : (addr : ℕ) (device : DeviceParts) → device_with addr profile ≡ Some device
-      → CanBeCutAfter start device (past_in spans)
+      → CanBeCutAfter start device (past_in (lost_in profile 0 events) spans)
 
 -- ---- lines of a piece that were dropped, and what was lost at its refusals
 

@@ -1,7 +1,8 @@
 //! Laws over the definitions alone.
 
 ghost use Rattle.std.specs.List.{Contains};
-ghost use Rattle.std.specs.Prelude.{◌≡◌, ◌≢◌, ℕ, Option, Some, List, [], ◌++◌, map};
+ghost use Rattle.std.specs.Prelude.{◌≡◌, ◌≢◌, ◌+◌, ℕ, None, Option, Some, List, [], ◌++◌, map};
+ghost use Rattle.pmb_bus.specs.declared.event.Event.{Event};
 ghost use Rattle.pmb_capture.specs.Cut.{EndsAtCut};
 ghost use Rattle.pmb_command.specs.Bus.{IsBus};
 ghost use Rattle.pmb_command.specs.Parts.{DeviceParts, device_with};
@@ -9,6 +10,7 @@ ghost use Rattle.pmb_facts.specs.Fact.{FactData};
 ghost use Rattle.pmb_fact_stream.specs.Before.{at_first};
 ghost use Rattle.pmb_fact_stream.specs.Choice.{ChoiceData, gives_others};
 ghost use Rattle.pmb_fact_stream.specs.Lines.{fact_lines};
+ghost use Rattle.pmb_fact_stream.specs.Lost.{lost_in};
 ghost use Rattle.pmb_fact_stream.specs.Spans.{past_in, span_facts};
 ghost use Rattle.pmb_fact_stream.specs.declared.telling.Telling.TheVariants.{Objects};
 ghost use Rattle.pmb_io.specs.declared.tally.Tally.{Tally};
@@ -28,8 +30,13 @@ ghost use Rattle.pmb_telling.specs.SoFar.{HasTold};
 ghost use Rattle.pmb_telling.specs.Text.{BadLine, FactsFrom, WritesTold};
 ghost use Rattle.pmb_unknown_start.specs.Certain.{CanBeCutAfter};
 ghost use Rattle.pmb_transaction.specs.Transaction.{TransactionData};
+ghost use Rattle.pmb_note.specs.Paging.{selected_mode};
+ghost use Rattle.pmb_json.specs.OnBus.{IsState, Reaches, ReachesAll, StateData, Stretch, past_of_all};
+ghost use Rattle.pmb_unknown_start.specs.Known.{mode, page};
 ghost use Rattle.pmb_unknown_start.specs.Past.{PastData, Said};
-ghost use Rattle.pmb_unknown_start.specs.declared.start.Start.TheVariants.{AllKnown};
+ghost use Rattle.pmb_unknown_start.specs.Phase.{phase};
+ghost use Rattle.pmb_unknown_start.specs.declared.mode.KnownMode.TheVariants.{Known, NoPage};
+ghost use Rattle.pmb_unknown_start.specs.declared.start.Start.TheVariants.{AllKnown, Late};
 
 use pmb_bus::laws::texts_may_be_cut_between_words;
 use pmb_facts::laws::{objects_are_of_facts, objects_name_the_device};
@@ -94,12 +101,12 @@ pub fn meanings_of_pieces_are_of_the_whole()
 /// page at each of these lines and at each refusal at which something may be lost. A time that the piece tells
 /// is that of the whole.
 pub fn pieces_say_no_more()
-    ensures { (choice : ChoiceData) (profile : List DeviceParts) (place there : ℕ → Place) (times theirs : ℕ → Option (List ℕ)) (before within : List PastData) (n : ℕ) (spans : List Span)
+    ensures { (choice : ChoiceData) (profile : List DeviceParts) (place there : ℕ → Place) (times theirs : ℕ → Option (List ℕ)) (before within : List PastData) (n m : ℕ) (events : List Event) (spans : List Span)
         → IsBus profile → choice.start ≢ AllKnown → TellNoMore n times theirs
         → ((addr : ℕ) (device : DeviceParts) → device_with addr profile ≡ Some device → CanBeCutAfter choice.start device before)
-        → DropsOnOwnPages profile before (within ++ past_in spans)
-        → EachSaysNoMore SameTimes (objects_of choice profile (span_facts choice.ignored place times within spans))
-        (objects_of (all_known choice) profile (span_facts choice.ignored there theirs (before ++ within) (moved_spans n spans))) }
+        → DropsOnOwnPages profile before (within ++ past_in (lost_in profile m events) spans)
+        → EachSaysNoMore SameTimes (objects_of choice profile (span_facts choice.ignored place times (lost_in profile m events) within spans))
+        (objects_of (all_known choice) profile (span_facts choice.ignored there theirs (lost_in profile (n + m) events) (before ++ within) (moved_spans n spans))) }
 {
     objects_are_of_facts();
     pieces_say_what_the_whole_says();
@@ -115,15 +122,43 @@ pub fn pieces_say_no_more()
 /// of the profile on each page. Such a PAGE it is to have too at each refusal after those lines at which something
 /// may be lost. A time that the piece tells is that of the whole.
 pub fn damaged_pieces_say_no_more()
-    ensures { (choice : ChoiceData) (profile : List DeviceParts) (place there : ℕ → Place) (times theirs : ℕ → Option (List ℕ)) (before ts : List TransactionData) (within : List PastData) (n : ℕ) (spans : List Span)
+    ensures { (choice : ChoiceData) (profile : List DeviceParts) (place there : ℕ → Place) (times theirs : ℕ → Option (List ℕ)) (before ts : List TransactionData) (within : List PastData) (n m : ℕ) (events : List Event) (spans : List Span)
         → TellNoMore n times theirs → CanBeMended choice.start profile before within ts
-        → DropsOnOwnPages profile (map Said (before ++ ts)) (past_in spans)
-        → EachSaysNoMore SameTimes (objects_of choice profile (span_facts choice.ignored place times within spans))
-        (objects_of (all_known choice) profile (span_facts choice.ignored there theirs (map Said (before ++ ts)) (moved_spans n spans))) }
+        → DropsOnOwnPages profile (map Said (before ++ ts)) (past_in (lost_in profile m events) spans)
+        → EachSaysNoMore SameTimes (objects_of choice profile (span_facts choice.ignored place times (lost_in profile m events) within spans))
+        (objects_of (all_known choice) profile (span_facts choice.ignored there theirs (lost_in profile (n + m) events) (map Said (before ++ ts)) (moved_spans n spans))) }
 {
     objects_are_of_facts();
     what_is_known_is_certain();
     all_that_is_known_is_the_context();
+}
+
+/// What is known late is so on the bus, by its events alone: PAGE, VOUT_MODE and PHASE of a device that are known
+/// before a fact are those of each state that the device may be in there. Where the capture begins it may be in any;
+/// a packet that was read acts as the rules of devices say, and a read tells what its register holds; and a leg that
+/// begins with the address of the device, for writing, may do anything in a packet that is refused, in one to a device
+/// that speaks no PMBus, and in what is passed over, as may each line that was dropped. Only PAGE is one that the
+/// device has, where the capture begins, and after each refusal and each such line. What was known before, or what was
+/// made of the capture so far, is nothing to that. The facts of spans after others go by what those say.
+pub fn what_is_known_late_holds_on_the_bus()
+    ensures page { (profile : List DeviceParts) (addr : ℕ) (device : DeviceParts) (first mid last : StateData) (stretches : List Stretch) (n : ℕ) (events : List Event) (spans : List Span) (number : ℕ)
+        → device_with addr profile ≡ Some device → IsState device first → ReachesAll device addr first stretches mid → Reaches device addr n events mid spans last
+        → page Late profile (past_of_all profile stretches ++ past_in (lost_in profile n events) spans) addr ≡ Some number → last.paging.page ≡ number }
+    ensures mode { (profile : List DeviceParts) (addr : ℕ) (device : DeviceParts) (first mid last : StateData) (stretches : List Stretch) (n : ℕ) (events : List Event) (spans : List Span) (number : ℕ)
+        → device_with addr profile ≡ Some device → IsState device first → ReachesAll device addr first stretches mid → Reaches device addr n events mid spans last
+        → mode Late profile (past_of_all profile stretches ++ past_in (lost_in profile n events) spans) addr ≡ Known number → selected_mode last.paging ≡ Some number }
+    ensures no_mode { (profile : List DeviceParts) (addr : ℕ) (device : DeviceParts) (first mid last : StateData) (stretches : List Stretch) (n : ℕ) (events : List Event) (spans : List Span)
+        → device_with addr profile ≡ Some device → IsState device first → ReachesAll device addr first stretches mid → Reaches device addr n events mid spans last
+        → mode Late profile (past_of_all profile stretches ++ past_in (lost_in profile n events) spans) addr ≡ NoPage → selected_mode last.paging ≡ None }
+    ensures phase { (profile : List DeviceParts) (addr : ℕ) (device : DeviceParts) (first mid last : StateData) (stretches : List Stretch) (n : ℕ) (events : List Event) (spans : List Span) (number : ℕ)
+        → device_with addr profile ≡ Some device → IsState device first → ReachesAll device addr first stretches mid → Reaches device addr n events mid spans last
+        → phase profile (past_of_all profile stretches ++ past_in (lost_in profile n events) spans) addr ≡ Some number → last.phase ≡ number }
+    ensures facts { (ignored : Option (List ℕ)) (place : ℕ → Place) (times : ℕ → Option (List ℕ)) (profile : List DeviceParts) (stretches : List Stretch) (n : ℕ) (events : List Event) (spans others : List Span)
+        → span_facts ignored place times (lost_in profile n events) (past_of_all profile stretches) (spans ++ others)
+        ≡ span_facts ignored place times (lost_in profile n events) (past_of_all profile stretches) spans
+        ++ span_facts ignored place times (lost_in profile n events) (past_of_all profile stretches ++ past_in (lost_in profile n events) spans) others }
+{
+    what_is_known_is_certain();
 }
 
 /// Where a capture is cut so that the rest is read late, the facts of the whole are some, and then one for
@@ -138,14 +173,14 @@ pub fn texts_of_pieces_say_no_more()
         (bad lines : List BadLine) (facts whole : List FactData) (c d : CountsData) → IsBus profile → choice.start ≢ AllKnown → (first : CanBeCutBehind profile choice.start front)
         → FactsFrom choice.ignored profile after at_first back bad facts c
         → FactsFrom choice.ignored profile after at_first (front ++ back) lines whole d
-        → AllDropsOnOwnPages profile (past_in first.spans) facts
+        → AllDropsOnOwnPages profile (past_in (lost_in profile 0 first.events) first.spans) facts
         → (firsts : List FactData) × (others : List FactData) × (whole ≡ firsts ++ others)
         × EachSaysNoMore OtherTimes (objects_of choice profile facts) (objects_of (all_known choice) profile others) }
     ensures times { (choice : ChoiceData) (profile : List DeviceParts) (after : AfterBadToken) (front back : List ℕ)
         (bad lines : List BadLine) (facts whole : List FactData) (c d : CountsData) → IsBus profile → choice.start ≢ AllKnown → (first : CanBeCutBehind profile choice.start front) → EndsWithLine front
         → FactsFrom choice.ignored profile after at_first back bad facts c
         → FactsFrom choice.ignored profile after at_first (front ++ back) lines whole d
-        → AllDropsOnOwnPages profile (past_in first.spans) facts
+        → AllDropsOnOwnPages profile (past_in (lost_in profile 0 first.events) first.spans) facts
         → (firsts : List FactData) × (others : List FactData) × (whole ≡ firsts ++ others)
         × EachSaysNoMore SameTimes (objects_of choice profile facts) (objects_of (all_known choice) profile others) }
 {

@@ -1,7 +1,8 @@
 -- The words of a line are no longer than it, and neither is the time among them: for `take_content` and
 -- `take_event`.
 use Rattle.std.proofs.Common.{◌≡◌, ◌≤◌, ◌==◌, ℕ, Bool, true, false, if◌then◌else◌, Option, Some, None, is_some, List, [], ◌∷◌}
-use Rattle.std.proofs.Common.{arith, codes, length, suc, subst}
+use Rattle.std.proofs.Common.{arith, codes, length, refl, suc, subst}
+use Rattle.std.specs.Str.{bytes_eq}
 use Rattle.pmb_recording.specs.Content.{most_content}
 use Rattle.pmb_trace.specs.Line as line
 use Rattle.pmb_trace.specs.declared.event_name.EventName.{EventName}
@@ -68,6 +69,65 @@ event_within most front ((byte ∷ word) ∷ texts) e short within is =
 
 -- ---- lines
 
+abbrev IsWithin : ℕ → Option (List ℕ) → Type 0
+IsWithin most (Some text) = length text ≤ most
+IsWithin most None = Unit {0}
+
+front_within : (most byte : ℕ) (text : Option (List ℕ)) → IsWithin most text
+    → IsWithin (suc most) (line.with_front byte text)
+front_within most byte (Some text) within = omega arith
+front_within most byte None within = tt
+
+first_or_within : (most byte : ℕ) (is_end : Bool) (text : Option (List ℕ)) → IsWithin most text
+    → IsWithin (suc most) (if is_end then Some [] else line.with_front byte text)
+first_or_within most byte true text within = omega arith
+first_or_within most byte false text within = front_within most byte text within
+
+no_longer : (n most : ℕ) (text : Option (List ℕ)) → n ≤ most → IsWithin n text → IsWithin most text
+no_longer n most (Some text) less within = omega arith
+no_longer n most None less within = tt
+
+before_end_within : (end text : List ℕ) → IsWithin (length text) (line.before_end end text)
+before_end_within end [] = tt
+before_end_within end (byte ∷ text) =
+    first_or_within (length text) byte (bytes_eq (byte ∷ text) end) (line.before_end end text) (before_end_within end text)
+
+end_within : (most : ℕ) (end text : List ℕ) → length text ≤ most → IsWithin most (line.before_end end text)
+end_within most end text short =
+    no_longer (length text) most (line.before_end end text) short (before_end_within end text)
+
+-- a comment's end leaves no more of it
+closed_within : (most : ℕ) (opens closes : Bool) (e : line.Event) → WordsWithin most e
+    → WordsWithin most (line.as_closed opens closes e)
+closed_within most true true e within = within
+closed_within most false false e within = within
+closed_within most true false e within = record { front = within.front; fields = tt }
+closed_within most false true e within = record { front = within.front; fields = tt }
+
+if_closed_within : (most : ℕ) (closes : Bool) (found : Option line.Event) (e : line.Event)
+    → ((e : line.Event) → found ≡ Some e → WordsWithin most e) → line.if_closed closes found ≡ Some e
+    → WordsWithin most e
+if_closed_within most closes (Some found) e within is =
+    let same : line.as_closed (line.opens_comment found.front) closes found ≡ e = cc in
+    subst (λ (e : line.Event). WordsWithin most e) same
+    (closed_within most (line.opens_comment found.front) closes found (within found refl))
+if_closed_within most closes None e within is = cc
+
+event_of_text : (most : ℕ) (text : List ℕ) (e : line.Event) → length text ≤ most
+    → line.event_in [] (pieces blank text) ≡ Some e → WordsWithin most e
+event_of_text most text e short is =
+    event_within most [] (pieces blank text) e (omega arith)
+    (at_most (length text) most (pieces blank text) short (pieces_within text)) is
+
+before_within : (most : ℕ) (before : Option (List ℕ)) (text : List ℕ) (e : line.Event) → IsWithin most before
+    → length text ≤ most → line.event_before before text ≡ Some e → WordsWithin most e
+before_within most (Some front) text e within short is =
+    if_closed_within most true (line.event_in [] (pieces blank front)) e
+    (λ e is. event_of_text most front e within is) is
+before_within most None text e within short is =
+    if_closed_within most false (line.event_in [] (pieces blank text)) e
+    (λ e is. event_of_text most text e short is) is
+
 not_lost : (loss : Option line.Loss) (other : line.TraceLine) (e : line.Event)
     → line.lost_or loss other ≡ line.Says e → other ≡ line.Says e
 not_lost (Some loss) other e is = cc
@@ -95,20 +155,10 @@ words_within text e short is =
     let b = no_heading (is_some (after (codes "# tracer:") text)) _ e a in
     let c = not_nothing (is_some (after (codes "#") text)) _ e b in
     let d = no_heading (is_some (after (codes "cpus=") text)) _ e c in
-    event_within most_content [] (pieces blank text) e (omega arith)
-    (at_most (length text) most_content (pieces blank text) short (pieces_within text))
-    (said (line.event_in [] (pieces blank text)) e d)
+    before_within most_content (line.before_end line.comment_end text) text e
+    (end_within most_content line.comment_end text short) short (said (line.event_of_line text) e d)
 
 -- ---- times
-
-abbrev IsWithin : ℕ → Option (List ℕ) → Type 0
-IsWithin most (Some text) = length text ≤ most
-IsWithin most None = Unit {0}
-
-front_within : (most byte : ℕ) (text : Option (List ℕ)) → IsWithin most text
-    → IsWithin (suc most) (line.with_front byte text)
-front_within most byte (Some text) within = omega arith
-front_within most byte None within = tt
 
 no_text : (b : Bool) → IsWithin 1 (if b then Some [] else None)
 no_text true = omega arith

@@ -1,6 +1,6 @@
 -- The four classes of the lines of a recording, and what becomes of a line of each.
-use Rattle.std.specs.Prelude.{◌≡◌, ℕ, ◌<◌, ◌==◌, true, false, Bool, Option, Some, None, List, [], ◌∷◌, ◌++◌, drop}
-use Rattle.std.specs.Prelude.{if◌then◌else◌}
+use Rattle.std.specs.Prelude.{◌≡◌, ℕ, ◌<◌, ◌==◌, ◌&&◌, true, false, not, Bool, Option, Some, None, List, [], ◌∷◌, ◌++◌}
+use Rattle.std.specs.Prelude.{drop, if◌then◌else◌, is_some}
 use Rattle.pmb_io.specs.Lines.{TextLine}
 use Rattle.pmb_recording.specs.Classes.{LineClass, GivesEvents, SaysNothing, PassedOver, IsFault, given_if}
 use Rattle.pmb_recording.specs.Content.{content}
@@ -104,27 +104,48 @@ pub data Passed (t : Transfers) (step : Step Transfers) : Type 0 where
   OtherBus : step ≡ quietly (record t { recording = past_other_bus t.recording }) → Passed t step
   OtherKind : step ≡ quietly (record t { recording = past_other_kind t.recording }) → Passed t step
 
+-- whether a line is a result whose bus can be read
+abbrev pub says_result : Says → Bool
+says_result (OfMessage m) = false
+says_result (Result count outcome) = true
+says_result Unreadable = false
+
+abbrev pub is_result : line.TraceLine → Bool
+is_result line.Nothing = false
+is_result line.Heading = false
+is_result (line.Lost count) = false
+is_result (line.Says e) = is_some (event_bus e.fields) && says_result (says e.name e.fields)
+
+abbrev pub holds_result : Option (List ℕ) → Bool
+holds_result (Some text) = is_result (line.trace_line text)
+holds_result None = false
+
 -- A fault: it is told with its line and a reason, after the packet that it cuts, and counted. No packet is under way
--- after it, and lines that can't begin one are skipped.
-pub record Faulted (t : Transfers) (step : Step Transfers) : Type 0 where
+-- after it, and lines that can't begin one are skipped, unless it is a result itself.
+pub record Faulted (ends : Bool) (t : Transfers) (step : Step Transfers) : Type 0 where
   pub reason : Reason
   pub told : step.text ≡ cut_text t.recording.packet ++ at_line t.recording.line (reason_text reason)
   pub is_counted : 0 < step.now.recording.troubles
   pub is_gone : step.now.recording.packet ≡ None
-  pub skips : step.now.recording.is_skipping ≡ true
+  pub skips : step.now.recording.is_skipping ≡ not ends
 
--- a step does what a class says
-abbrev pub DoesAs : LineClass → Transfers → Step Transfers → Type 0
-DoesAs GivesEvents t step = GivenText t step.text
-DoesAs SaysNothing t step = Unsaid t step
-DoesAs PassedOver t step = Passed t step
-DoesAs IsFault t step = Faulted t step
+-- A step does what a class says; `ends` tells a result.
+abbrev pub DoesAs : LineClass → Bool → Transfers → Step Transfers → Type 0
+DoesAs GivesEvents ends t step = GivenText t step.text
+DoesAs SaysNothing ends t step = Unsaid t step
+DoesAs PassedOver ends t step = Passed t step
+DoesAs IsFault ends t step = Faulted ends t step
 
 -- the class of a line of the input
 abbrev pub class_of_line : Transfers → TextLine → LineClass
 class_of_line t given = class_of (at_next_line t) (content (t.recording.line == 0) given)
 
+-- whether it is a result
+abbrev pub is_result_line : Transfers → TextLine → Bool
+is_result_line t given = holds_result (content (t.recording.line == 0) given)
+
 -- Each line has one class, and what becomes of it is what its class says.
 abbrev pub EachLineHasItsClass : Type 0
 EachLineHasItsClass =
-    (t : Transfers) (given : TextLine) → DoesAs (class_of_line t given) (at_next_line t) (take_line t given)
+    (t : Transfers) (given : TextLine)
+    → DoesAs (class_of_line t given) (is_result_line t given) (at_next_line t) (take_line t given)

@@ -5,7 +5,8 @@ use Rattle.pmb_io.specs.Count.{capped}
 use Rattle.pmb_io.specs.Lines.{TextLine}
 use Rattle.pmb_recording.specs.Content.{content}
 use Rattle.pmb_recording.specs.declared.passed.Kind.TheVariants.{Smbus as OfSmbus}
-use Rattle.pmb_recording.specs.Recording.{Step, at_begin, at_end, at_failure, at_fault, at_heading, at_loss, at_packet}
+use Rattle.pmb_recording.specs.Recording.{Step, at_begin, at_end, at_failure, at_fault, at_fault_ending, at_heading}
+use Rattle.pmb_recording.specs.Recording.{at_loss, at_packet}
 use Rattle.pmb_recording.specs.Recording.{at_too_long, following, fresh, given, is_followed, next_line, past_other_bus}
 use Rattle.pmb_recording.specs.Recording.{past_other_kind, quietly, skipped}
 use Rattle.pmb_recording.specs.Told.{Reason, DoesNotFollow, MakesNoSense}
@@ -61,6 +62,10 @@ on t step = record { now = record t { recording = step.now }; text = step.text }
 abbrev pub fault : Transfers → Reason → Step Transfers
 fault t reason = on t (at_fault t.recording reason)
 
+-- a result that is a fault: reading begins after it
+abbrev pub faulty_result : Transfers → Reason → Step Transfers
+faulty_result t reason = on t (at_fault_ending t.recording reason true)
+
 abbrev pub too_long : Transfers → Step Transfers
 too_long t = on t (at_too_long t.recording false)
 
@@ -106,10 +111,14 @@ with_message t m = record t {
   };
 }
 
--- Its bytes have room. So has what is kept of one that reads: there are no more of these than bytes.
+-- So many messages that read are kept until their replies come. (Linux takes 42 messages of a program.)
+abbrev pub most_reads : ℕ
+most_reads = 1024
+
+-- Its bytes have room, and so would what is kept of one that reads.
 abbrev pub has_room : Transfers → List ℕ → Bool
 has_room t bytes =
-    nat_le (length t.recording.wire.items + 1 + length bytes) most_wire && nat_lt (length t.reads.items) most_wire
+    nat_le (length t.recording.wire.items + 1 + length bytes) most_wire && nat_lt (length t.reads.items) most_reads
 
 abbrev pub add_message : Transfers → Message → Step Transfers
 add_message t m = if has_room t m.bytes then quietly (with_message t m) else too_long t
@@ -201,7 +210,8 @@ abbrev pub result_follows : Transfers → ℕ → Outcome → Bool
 result_follows t count outcome = count == t.messages && replies_due outcome.value t.reads.items == t.replies
 
 abbrev pub result : Transfers → ℕ → Outcome → Step Transfers
-result t count outcome = if result_follows t count outcome then end_transfer t outcome else fault t DoesNotFollow
+result t count outcome =
+    if result_follows t count outcome then end_transfer t outcome else faulty_result t DoesNotFollow
 
 -- ---- events
 
@@ -212,7 +222,8 @@ stray t = if t.recording.is_skipping then quietly t else fault t DoesNotFollow
 -- a result ends what is skipped
 abbrev pub stray_result : Transfers → Step Transfers
 stray_result t =
-    if t.recording.is_skipping then quietly (record t { recording = skipped t.recording }) else fault t DoesNotFollow
+    if t.recording.is_skipping then quietly (record t { recording = skipped t.recording }) else
+    faulty_result t DoesNotFollow
 
 abbrev pub within : Option PacketLines → Step Transfers → Step Transfers → Step Transfers
 within (Some lines) inside outside = inside

@@ -12,7 +12,7 @@ ghost use Rattle.pmb_kernel.specs.Transfers.{with_message, with_read};
 ghost use Rattle.pmb_kernel.specs.Views.{IsShort, message_with, role_of};
 
 use crate::events::{Message, Role};
-use crate::transfers::{Read, Transfers};
+use crate::transfers::{MOST_READS, Read, Transfers};
 use crate::wire::push_written;
 use pmb_io::laws::texts_add_up;
 use pmb_io::{RunFault, Sink, Waiting};
@@ -130,7 +130,7 @@ impl Transfers {
     pub(crate) fn has_room(&self, bytes: &[u8]) -> bool
         ensures { result ≡ room_for self.now bytes.now }
     {
-        self.recording.wire.len() + 1 + bytes.len() <= MOST_WIRE && self.reads.len() < MOST_WIRE
+        self.recording.wire.len() + 1 + bytes.len() <= MOST_WIRE && self.reads.len() < MOST_READS
     }
 
     /// Puts a message to the transfer under way, which has room for it.
@@ -152,7 +152,7 @@ impl Transfers {
     /// Keeps a message that reads, whose address was put on the wire.
     pub(crate) fn push_read(&mut self, message: &Message<'_>)
         requires address { message.now.address ≤ 0x7f }
-        requires room { length self.old.reads.items < MOST_WIRE }
+        requires room { length self.old.reads.items < MOST_READS }
         ensures { self.new ≡ record self.old { reads = record { items = with_read (role_of message.now.role) (read_of (length self.old.recording.wire.items) (message_with message.now [])) self.old.reads.items } } }
     {
         if message.role == Role::Reads {

@@ -3,21 +3,22 @@
 ghost use Rattle.std.specs.Prelude.{◌≡◌, ◌≤◌, ◌<◌, ◌+◌, length, OnOk};
 ghost use Rattle.pmb_io.specs.Calls.{WriterTells};
 ghost use Rattle.pmb_io.specs.Outgoing.{PutsText};
+ghost use Rattle.pmb_recording.specs.Told.{DoesNotFollow};
 ghost use Rattle.pmb_trace.specs.Views.{outcome_of};
 ghost use Rattle.pmb_kernel.specs.Transfers.{add_reply as reply_added, end_transfer as end_step};
-ghost use Rattle.pmb_kernel.specs.Transfers.{follow_result as result_followed};
+ghost use Rattle.pmb_kernel.specs.Transfers.{faulty_result as faulty_step, follow_result as result_followed};
 ghost use Rattle.pmb_kernel.specs.Transfers.{reads_below as count_below, replies_due as due_of, reply as reply_step, reply_to as reply_to_step};
 ghost use Rattle.pmb_kernel.specs.Transfers.{result as result_step, stray_result as stray_result_step};
 ghost use Rattle.pmb_kernel.specs.Transfers.{with_reply};
 ghost use Rattle.pmb_kernel.specs.Views.{message_with};
 
 use crate::events::Message;
-use crate::transfers::{Read, Transfers};
+use crate::transfers::{MOST_READS, Read, Transfers};
 use crate::wire::put_read;
 use pmb_io::laws::texts_add_up;
 use pmb_io::{RunFault, Sink, Waiting};
 use pmb_recording::{Fault, MOST_WIRE};
-use pmb_trace::Outcome;
+use pmb_trace::{Outcome, OutcomeText, Told, below_zero};
 
 impl Transfers {
     /// Takes a reply of the transfer under way.
@@ -50,7 +51,7 @@ impl Transfers {
         waiting: &mut Waiting,
         writer: &mut W,
     ) -> Result<(), RunFault>
-        requires { self.old.replies < MOST_WIRE }
+        requires { self.old.replies < MOST_READS }
         ensures now { self.new ≡ (reply_to_step self.old read (message_with message.now bytes.now)).now }
         ensures puts { OnOk result (PutsText (W.told writer.old).held waiting.old.items (W.told writer.new).held waiting.new.items (reply_to_step self.old read (message_with message.now bytes.now)).text) }
         ensures failed { WriterTells (W.told writer.old) (W.told writer.new) result }
@@ -70,7 +71,7 @@ impl Transfers {
         waiting: &mut Waiting,
         writer: &mut W,
     ) -> Result<(), RunFault>
-        requires { self.old.replies < MOST_WIRE }
+        requires { self.old.replies < MOST_READS }
         ensures now { self.new ≡ (reply_added self.old read bytes.now).now }
         ensures puts { OnOk result (PutsText (W.told writer.old).held waiting.old.items (W.told writer.new).held waiting.new.items (reply_added self.old read bytes.now).text) }
         ensures failed { WriterTells (W.told writer.old) (W.told writer.new) result }
@@ -85,7 +86,7 @@ impl Transfers {
 
     /// Puts a reply where it belongs, in a packet that has room for it.
     pub(crate) fn put_reply(&mut self, read: Read, bytes: &[u8])
-        requires few { self.old.replies < MOST_WIRE }
+        requires few { self.old.replies < MOST_READS }
         requires room { length self.old.recording.wire.items + length bytes.now ≤ MOST_WIRE }
         ensures { self.new ≡ with_reply self.old read bytes.now }
     {
@@ -128,7 +129,7 @@ impl Transfers {
             self.recording.end_skipping();
             return Ok(());
         }
-        self.fault(Fault::DoesNotFollow, waiting, writer)
+        self.faulty_result(waiting, writer)
     }
 
     /// Takes the result of the transfer under way.
@@ -146,7 +147,21 @@ impl Transfers {
         if count == self.messages && self.replies_due(outcome.value) == self.replies {
             return self.end_transfer(outcome, waiting, writer);
         }
-        self.fault(Fault::DoesNotFollow, waiting, writer)
+        self.faulty_result(waiting, writer)
+    }
+
+    /// Takes a result that doesn't follow: reading begins after it.
+    pub(crate) fn faulty_result<W: Sink>(
+        &mut self,
+        waiting: &mut Waiting,
+        writer: &mut W,
+    ) -> Result<(), RunFault>
+        ensures now { self.new ≡ (faulty_step self.old DoesNotFollow).now }
+        ensures puts { OnOk result (PutsText (W.told writer.old).held waiting.old.items (W.told writer.new).held waiting.new.items (faulty_step self.old DoesNotFollow).text) }
+        ensures failed { WriterTells (W.told writer.old) (W.told writer.new) result }
+    {
+        self.recording
+            .take_fault_ending(Fault::DoesNotFollow, true, waiting, writer)
     }
 
     /// Ends the transfer under way.
@@ -163,7 +178,14 @@ impl Transfers {
         if outcome.value == Some(self.messages) {
             return self.recording.end_packet(waiting, writer);
         }
-        self.recording.end_failure(outcome.text, waiting, writer)
+        match outcome.text {
+            OutcomeText::Written(text) => self.recording.end_failure(text, waiting, writer),
+            OutcomeText::Below(number) => {
+                let mut room = Told::new();
+                let text = below_zero(number, &mut room);
+                self.recording.end_failure(text, waiting, writer)
+            }
+        }
     }
 
     /// How many replies a transfer of such a result has.

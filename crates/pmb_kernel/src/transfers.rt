@@ -21,9 +21,13 @@ use crate::events::{Message, Says, read_event};
 use arrayvec::ArrayVec;
 use pmb_io::laws::texts_add_up;
 use pmb_io::{InputLine, RunFault, Sink, Waiting};
-use pmb_recording::{Fault, Kind, MOST_WIRE, Recording, content};
+use pmb_recording::{Fault, Kind, Recording, content};
 use pmb_trace::{Bytes, Event, EventKind, Loss, TraceLine, bus_field, event_time, trace_line};
 use pmb_words::Pieces;
+
+/// The most messages that read of a transfer: behind so many, no message has room. Linux takes 42
+/// messages of a program.
+pub const MOST_READS: usize = 1024;
 
 /// A message that reads, whose reply is to come. 65,535 stands for what is greater: no packet has that
 /// many messages, and no line shows that many bytes.
@@ -49,7 +53,7 @@ pub struct Transfers {
     /// How many messages the transfer has.
     pub messages: u64,
     /// Those that read.
-    pub reads: ArrayVec<Read, MOST_WIRE>,
+    pub reads: ArrayVec<Read, MOST_READS>,
     /// How many of them have their reply.
     pub replies: usize,
     /// How many bytes these replies have.

@@ -98,6 +98,13 @@ at_fault r reason = record {
   text = (cut r).text ++ at_line r.line (reason_text reason);
 }
 
+-- A fault of a line that may itself end a packet, whatever is wrong with it: what follows is skipped, unless it does.
+abbrev pub at_fault_ending : Recording → Reason → Bool → Step Recording
+at_fault_ending r reason ends = record {
+  now = record ((at_fault r reason).now) { is_skipping = not ends };
+  text = (at_fault r reason).text;
+}
+
 -- Lost events.
 abbrev pub at_loss : Recording → Option (List ℕ) → Step Recording
 at_loss r count = record {

@@ -3,7 +3,7 @@
 ghost use Rattle.std.specs.Prelude.{◌≡◌, ◌+◌, ◌≤◌, length, option_copied, take, OnOk};
 ghost use Rattle.pmb_io.specs.Calls.{WriterTells};
 ghost use Rattle.pmb_io.specs.Outgoing.{PutsText};
-ghost use Rattle.pmb_recording.specs.Recording.{at_begin, at_end, counted_none, at_failure, at_fault, at_heading, at_hidden_bytes, at_hidden_reply, at_loss};
+ghost use Rattle.pmb_recording.specs.Recording.{at_begin, at_end, counted_none, at_failure, at_fault, at_fault_ending, at_heading, at_hidden_bytes, at_hidden_reply, at_loss};
 ghost use Rattle.pmb_recording.specs.Recording.{at_packet, at_too_long, cut, cut_text, end_text, first_line as first_of, following, fresh, given};
 ghost use Rattle.pmb_recording.specs.Recording.{is_followed as follows_name, next_line as line_after, past_other_bus, past_other_kind, passed_kind};
 ghost use Rattle.pmb_recording.specs.Recording.{skipped, tally_of, with_trouble, with_time, with_unit};
@@ -183,6 +183,24 @@ impl Recording {
         self.is_skipping = true;
         put_cut(packet, waiting, writer)?;
         put_fault(self.line, fault, waiting, writer)
+    }
+
+    /// Takes a fault of a line that may itself end a packet, such as a STOP or a result, whatever is
+    /// wrong with it. What follows is skipped, unless the line does.
+    pub fn take_fault_ending<W: Sink>(
+        &mut self,
+        fault: Fault<'_>,
+        ends_packet: bool,
+        waiting: &mut Waiting,
+        writer: &mut W,
+    ) -> Result<(), RunFault>
+        ensures now { self.new ≡ (at_fault_ending self.old (reason_of fault.entry) ends_packet).now }
+        ensures puts { OnOk result (PutsText (W.told writer.old).held waiting.old.items (W.told writer.new).held waiting.new.items ((at_fault_ending self.old (reason_of fault.entry) ends_packet).text)) }
+        ensures failed { WriterTells (W.told writer.old) (W.told writer.new) result }
+    {
+        let outcome = self.take_fault(fault, waiting, writer);
+        self.is_skipping = !ends_packet;
+        outcome
     }
 
     /// Takes a loss of events, with their number where one is told.

@@ -1,13 +1,11 @@
 -- How long fields are.
 -- A field is not longer than its line, so that the name of an analyzer and a time have room where they are kept.
-use Rattle.std.proofs.Common.{◌≡◌, ℕ, zero, suc, ◌≤◌, ◌==◌, Bool, true, false, Option, Some, None, List, []}
-use Rattle.std.proofs.Common.{◌∷◌, length, arith, subst, sym, ◌∙◌, if◌then◌else◌}
-use Rattle.pmb_csv.specs.Columns.{field, is_last_of, or_none}
+use Rattle.std.proofs.Common.{ℕ, zero, suc, ◌≤◌, ◌==◌, Bool, true, false, Option, Some, None, List, []}
+use Rattle.std.proofs.Common.{◌∷◌, length, arith, if◌then◌else◌}
+use Rattle.pmb_csv.specs.Columns.{field, or_none, value}
 use Rattle.pmb_csv.specs.Fields.{Begins, Closed, Place, Plain, Quoted, Record, behind_empty, comma, fields_from, longer}
 use Rattle.pmb_csv.specs.Fields.{longer_first, quote, record_of}
-use Rattle.pmb_saleae.specs.Row.{is_row, name_of, value_if}
-use Rattle.pmb_saleae.specs.declared.columns.Columns.{Columns}
-use Rattle.pmb_saleae.proofs.RowLemmas.{name_if, name_is}
+use Rattle.pmb_saleae.specs.Row.{value_if}
 
 -- the field at a place has so many bytes at most
 abbrev Short : ℕ → ℕ → List (List ℕ) → Type 0
@@ -68,22 +66,10 @@ short_field Closed (byte ∷ line) k =
     (either (byte == comma) k (suc n) (behind_empty (fields_from Begins line)) broken
     (behind_short k n (fields_from Begins line).fields (short_field Begins line)) (none k (suc n)))
 
--- a value
-pub short_value : (place : Option ℕ) (line : List ℕ) → length (value_if place (record_of line)) ≤ length line
-short_value (Some place) line = short_field Begins line place
-short_value None line = omega arith
+-- a value, as the analyzer's name
+pub short_value : (place : ℕ) (line : List ℕ) → length (value place (record_of line)) ≤ length line
+short_value place line = short_field Begins line place
 
--- the analyzer's name
-name_short : (row last : Bool) (name : List ℕ) (found : Option (List ℕ)) (n : ℕ) → Some name ≡ name_if row last found
-    → length (or_none found) ≤ n → length name ≤ n
-name_short true last name found n is short = subst (λ (f : Option (List ℕ)). length (or_none f) ≤ n) (sym is) short
-name_short false true name found n is short = absurd (cc)
-name_short false false name found n is short =
-    subst (λ (f : Option (List ℕ)). length (or_none f) ≤ n) (sym is) short
-
-pub short_name : (columns : Columns) (line name : List ℕ) → Some name ≡ name_of columns (record_of line)
-    → length name ≤ length line
-short_name columns line name is =
-    let r = record_of line in
-    name_short (is_row columns r) (is_last_of columns.name r) name (field columns.name r.fields) (length line)
-    (is ∙ name_is columns r) (short_field Begins line columns.name)
+pub short_value_if : (place : Option ℕ) (line : List ℕ) → length (value_if place (record_of line)) ≤ length line
+short_value_if (Some place) line = short_value place line
+short_value_if None line = omega arith

@@ -1,4 +1,5 @@
 pub mod FieldLengths
 pub mod LineClasses
+pub mod NameLemmas
 pub mod RowLemmas
 pub mod TimeLemmas

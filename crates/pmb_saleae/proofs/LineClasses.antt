@@ -19,7 +19,7 @@ use Rattle.pmb_saleae.specs.Classes.{class_of_said, class_on_bus, class_under, m
 use Rattle.pmb_saleae.specs.Columns.{heading_of}
 use Rattle.pmb_saleae.specs.Packets.{add_byte, begin, fault, follow, on, on_bus, refuse, repeat, skip, take_content}
 use Rattle.pmb_saleae.specs.Packets.{take_event, take_named, take_row, take_under, under, with_byte, with_radix}
-use Rattle.pmb_saleae.specs.Row.{is_row, name_of, value_if}
+use Rattle.pmb_saleae.specs.Row.{is_row, lost_front, name_of, value_if}
 use Rattle.pmb_saleae.specs.Table.{event_of}
 use Rattle.pmb_saleae.specs.declared.columns.Columns.{Columns}
 use Rattle.pmb_saleae.specs.declared.event.Event.{Event}
@@ -105,18 +105,12 @@ of_said : (t : Saleae) (time : List ℕ) (said : Option Event)
 of_said t time (Some event) = standing t time event t.recording.packet refl
 of_said t time None = faulted t MakesNoSense
 
-whole : (t : Saleae) (b : Bool) (c : LineClass) (step : Step Saleae) → OfEvent c t.recording step
-    → OfEvent (if b then c else IsFault) t.recording (if b then step else fault t MakesNoSense)
-whole t true c step does = does
-whole t false c step does = faulted t MakesNoSense
-
 of_row : (t : Saleae) (columns : Columns) (r : Record)
     → OfEvent (class_of_row t columns r) t.recording (take_row t columns r)
 of_row t columns r =
     let settled = with_radix t columns r in
     let said = event_of settled.radix columns r in
-    let time = value_if columns.start_time r in
-    whole t (is_row columns r) (class_of_said settled said) (take_event settled time said) (of_said settled time said)
+    of_said settled (value_if columns.start_time r) said
 
 -- ---- buses
 
@@ -152,21 +146,23 @@ before SaysNothing t name step of_event = absurd of_event
 before PassedOver t name step of_event = absurd of_event
 
 -- the bus was settled before
-on_known : (t : Saleae) (columns : Columns) (r : Record) (b : Bool)
-    → DoesAs (if b then class_of_row t columns r else PassedOver) t
-    (if b then take_row t columns r else quietly (record t { recording = past_other_bus t.recording }))
-on_known t columns r true = does (class_of_row t columns r) t (take_row t columns r) (of_row t columns r)
-on_known t columns r false = refl
+on_known : (t : Saleae) (columns : Columns) (r : Record) (followed lost : Bool)
+    → DoesAs (if followed then class_of_row t columns r else if lost then IsFault else PassedOver) t
+    (if followed then take_row t columns r else if lost then fault t MakesNoSense else
+    quietly (record t { recording = past_other_bus t.recording }))
+on_known t columns r true lost = does (class_of_row t columns r) t (take_row t columns r) (of_row t columns r)
+on_known t columns r false true = faulted t MakesNoSense
+on_known t columns r false false = refl
 
 -- the bus is settled by this line
-on_first : (t : Saleae) (name : List ℕ) (columns : Columns) (r : Record) (b : Bool) → b ≡ true
-    → DoesAs (if b then class_of_row (settled t name) columns r else PassedOver) t
-    (if b then take_row (settled t name) columns r else
+on_first : (t : Saleae) (name : List ℕ) (columns : Columns) (r : Record) (b lost : Bool) → b ≡ true
+    → DoesAs (if b then class_of_row (settled t name) columns r else if lost then IsFault else PassedOver) t
+    (if b then take_row (settled t name) columns r else if lost then fault (settled t name) MakesNoSense else
     quietly (record (settled t name) { recording = past_other_bus (settled t name).recording }))
-on_first t name columns r true is =
+on_first t name columns r true lost is =
     before (class_of_row (settled t name) columns r) t name (take_row (settled t name) columns r)
     (of_row (settled t name) columns r)
-on_first t name columns r false is = cc
+on_first t name columns r false lost is = cc
 
 if_true : {A : Type 0} (b : Bool) (x y : A) → b ≡ true → (if b then x else y) ≡ x
 if_true true x y is = refl
@@ -195,29 +191,34 @@ on_either : (t : Saleae) (name : List ℕ) (columns : Columns) (r : Record)
 on_either t name columns r (inl known) =
     with_bus t name columns r t.recording
     (sym (if_true t.recording.follows_bus t.recording (settled t name).recording known))
-    (on_known t columns r (bytes_eq t.recording.bus.items name))
+    (on_known t columns r (bytes_eq t.recording.bus.items name) (lost_front t.recording.bus.items name))
 on_either t name columns r (inr first) =
     with_bus t name columns r (settled t name).recording
     (sym (if_false t.recording.follows_bus t.recording (settled t name).recording first))
-    (on_first t name columns r (bytes_eq name name) ((bytes_eq-Decides name name).1 refl))
+    (on_first t name columns r (bytes_eq name name) (lost_front name name) ((bytes_eq-Decides name name).1 refl))
 
-of_known : (t : Saleae) (name : List ℕ) (columns : Columns) (r : Record) (is_empty : Bool)
+of_name : (t : Saleae) (name : List ℕ) (columns : Columns) (r : Record) (is_empty : Bool)
     → DoesAs (if is_empty then IsFault else
     class_on_bus (record t { recording = following t.recording name }) name columns r) t
     (if is_empty then fault t MakesNoSense else
     on_bus (record t { recording = following t.recording name }) name columns r)
-of_known t name columns r true = faulted t MakesNoSense
-of_known t name columns r false = on_either t name columns r (bool_cases t.recording.follows_bus)
+of_name t name columns r true = faulted t MakesNoSense
+of_name t name columns r false = on_either t name columns r (bool_cases t.recording.follows_bus)
 
-of_named : (t : Saleae) (name : Option (List ℕ)) (columns : Columns) (r : Record)
+of_named : (t : Saleae) (name : List ℕ) (columns : Columns) (r : Record)
     → DoesAs (class_of_named t name columns r) t (take_named t name columns r)
-of_named t (Some name) columns r = of_known t name columns r (bytes_eq name [])
-of_named t None columns r = does (class_of_row t columns r) t (take_row t columns r) (of_row t columns r)
+of_named t name columns r = of_name t name columns r (bytes_eq name [])
+
+of_fields : (t : Saleae) (columns : Columns) (r : Record) (b : Bool)
+    → DoesAs (if b then class_of_named t (name_of columns r) columns r else IsFault) t
+    (if b then take_named t (name_of columns r) columns r else fault t MakesNoSense)
+of_fields t columns r true = of_named t (name_of columns r) columns r
+of_fields t columns r false = faulted t MakesNoSense
 
 -- ---- lines
 
 of_under : (t : Saleae) (columns : Option Columns) (r : Record) → DoesAs (class_under t columns r) t (under t columns r)
-of_under t (Some columns) r = of_named t (name_of columns r) columns r
+of_under t (Some columns) r = of_fields t columns r (is_row columns r)
 of_under t None r = faulted t MakesNoSense
 
 of_record : (t : Saleae) (heading : Option Columns) (r : Record)

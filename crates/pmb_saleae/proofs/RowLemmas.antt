@@ -1,17 +1,13 @@
--- A row by its columns.
--- `name` looks at one field and whether the line ends with it, where the definition speaks of all fields but the last; and
--- a number with a quote is none, so that `number` reads texts without quotes alone.
-use Rattle.std.proofs.Common.{◌≡◌, ℕ, zero, suc, ◌==◌, ◌&&◌, ◌||◌, Bool, true, false, Option, Some, None, List, [], ◌∷◌}
+-- A row by its columns: a number with a quote is none, so that `number` reads texts without quotes alone.
+use Rattle.std.proofs.Common.{◌≡◌, ℕ, ◌==◌, ◌&&◌, ◌||◌, Bool, true, false, Option, Some, None, List, [], ◌∷◌}
 use Rattle.std.proofs.Common.{length, refl, sym, ◌∙◌, ap, inl, inr, if◌then◌else◌, codes, subst, min, nat_lt, ◌+◌}
 use Rattle.std.proofs.Common.{◌-◌, ◌*◌}
 use Rattle.std.proofs.lemmas.Bool.Decides.{eqb_tells}
-use Rattle.pmb_csv.specs.Columns.{count_of, field, has_fields, has_quote, is_last_of, is_last_place, plain_of}
+use Rattle.pmb_csv.specs.Columns.{count_of, has_fields, has_quote, plain_of}
 use Rattle.pmb_csv.specs.Fields.{Record, quote}
 use Rattle.pmb_saleae.specs.Number.{either_number, number_of, numbered, two_digits}
 use Rattle.pmb_saleae.specs.declared.number.Radix.TheVariants.{Hexadecimal, Decimal}
 use Rattle.pmb_saleae.specs.declared.number.Number.{Number}
-use Rattle.pmb_saleae.specs.Row.{front, is_row, name_of}
-use Rattle.pmb_saleae.specs.declared.columns.Columns.{Columns}
 use Rattle.pmb_words.specs.Numbers.{byte_of, decimal_from, decimal_of, greatest, is_digit, with_digit}
 use Rattle.pmb_words.specs.Parts.{after}
 
@@ -34,46 +30,6 @@ counted r found count is = count_some r.is_whole (length r.fields) found count i
 
 pub not_counted : (r : Record) (count : ℕ) → None ≡ count_of r → false ≡ has_fields count r
 not_counted r count is = count_none r.is_whole (length r.fields) count is
-
--- ---- the name
-
-front_field : (place : ℕ) (fields : List (List ℕ))
-    → field place (front fields) ≡ (if is_last_place place fields then None else field place fields)
-front_field place [] = refl
-front_field zero (f ∷ []) = refl
-front_field (suc place) (f ∷ []) = refl
-front_field zero (f ∷ g ∷ fields) = refl
-front_field (suc place) (f ∷ g ∷ fields) = front_field place (g ∷ fields)
-
-known_field : (row whole : Bool) (place : ℕ) (fields : List (List ℕ))
-    → field place (if row then fields else if whole then front fields else fields)
-    ≡ (if row then field place fields else if whole && is_last_place place fields then None else field place fields)
-known_field true whole place fields = refl
-known_field false true place fields = front_field place fields
-known_field false false place fields = refl
-
--- the name by its field, where that is there
-abbrev pub name_if : Bool → Bool → Option (List ℕ) → Option (List ℕ)
-name_if row last found = if row then found else if last then None else found
-
-pub name_is : (columns : Columns) (r : Record)
-    → name_of columns r ≡ name_if (is_row columns r) (is_last_of columns.name r) (field columns.name r.fields)
-name_is columns r = known_field (is_row columns r) r.is_whole columns.name r.fields
-
-pub name_none : (row last : Bool) → name_if row last None ≡ None
-name_none true last = refl
-name_none false true = refl
-name_none false false = refl
-
-pub name_cut : (row last : Bool) (found : Option (List ℕ)) → row ≡ false → last ≡ true → name_if row last found ≡ None
-name_cut row last found no_row is_last = simp (no_row, is_last)
-
-pub name_whole : (row last : Bool) (found : Option (List ℕ)) → row ≡ true → name_if row last found ≡ found
-name_whole row last found is = simp is
-
-pub name_inside : (row last : Bool) (found : Option (List ℕ)) → last ≡ false → name_if row last found ≡ found
-name_inside true last found no_last = refl
-name_inside false last found no_last = simp no_last
 
 -- ---- numbers
 

@@ -13,7 +13,7 @@ use Rattle.pmb_recording.specs.declared.recording.PacketLines.{PacketLines}
 use Rattle.pmb_recording.specs.declared.recording.Recording.{Recording}
 use Rattle.pmb_saleae.specs.Columns.{heading_of}
 use Rattle.pmb_saleae.specs.Packets.{take_line, with_radix}
-use Rattle.pmb_saleae.specs.Row.{is_row, name_of}
+use Rattle.pmb_saleae.specs.Row.{is_row, lost_front, name_of}
 use Rattle.pmb_saleae.specs.Table.{event_of}
 use Rattle.pmb_saleae.specs.declared.columns.Columns.{Columns}
 use Rattle.pmb_saleae.specs.declared.event.Event.{Event}
@@ -42,26 +42,23 @@ class_of_said t None = IsFault
 -- a row of the analyzer that is followed
 abbrev pub class_of_row : Saleae → Columns → Record → LineClass
 class_of_row t columns r =
-    if is_row columns r then
     class_of_said (with_radix t columns r) (event_of (with_radix t columns r).radix columns r)
-    else IsFault
 
--- a row of an analyzer: the first that can be read settles which is followed
+-- a row of an analyzer: the first that names one settles which is followed
 abbrev pub class_on_bus : Saleae → List ℕ → Columns → Record → LineClass
-class_on_bus t name columns r = if is_followed t.recording name then class_of_row t columns r else PassedOver
+class_on_bus t name columns r =
+    if is_followed t.recording name then class_of_row t columns r else
+    if lost_front t.recording.bus.items name then IsFault else PassedOver
 
-abbrev pub class_of_known : Saleae → List ℕ → Columns → Record → LineClass
-class_of_known t name columns r =
+abbrev pub class_of_named : Saleae → List ℕ → Columns → Record → LineClass
+class_of_named t name columns r =
     if bytes_eq name [] then IsFault else
     class_on_bus (record t { recording = following t.recording name }) name columns r
 
-abbrev pub class_of_named : Saleae → Option (List ℕ) → Columns → Record → LineClass
-class_of_named t (Some name) columns r = class_of_known t name columns r
-class_of_named t None columns r = class_of_row t columns r
-
--- a row under the columns of a heading
+-- A line under the columns of a heading has as many fields, or is a fault.
 abbrev pub class_under : Saleae → Option Columns → Record → LineClass
-class_under t (Some columns) r = class_of_named t (name_of columns r) columns r
+class_under t (Some columns) r =
+    if is_row columns r then class_of_named t (name_of columns r) columns r else IsFault
 class_under t None r = IsFault
 
 -- a line that is not blank

@@ -1,7 +1,10 @@
+pub mod Bus
 pub mod Classes
 pub mod Columns
+pub mod Exponent
 pub mod Number
 pub mod Packets
 pub mod Row
+pub mod Rows
 pub mod Table
 pub mod Time

@@ -1,11 +1,12 @@
 -- What becomes of a packet, row by row, and what is told.
-use Rattle.std.specs.Prelude.{ℕ, ◌==◌, true, false, Option, Some, None, nat_le, if◌then◌else◌, List, [], ◌∷◌, ◌++◌}
+use Rattle.std.specs.Prelude.{ℕ, ◌==◌, true, false, Bool, Option, Some, None, nat_le, if◌then◌else◌, List, [], ◌∷◌, ◌++◌}
 use Rattle.std.specs.Prelude.{length}
 use Rattle.std.specs.Str.{bytes_eq}
 use Rattle.pmb_csv.specs.Fields.{Record, record_of}
 use Rattle.pmb_io.specs.Lines.{TextLine}
 use Rattle.pmb_recording.specs.Content.{content}
-use Rattle.pmb_recording.specs.Recording.{Step, at_begin, at_end, at_fault, at_heading, at_packet, at_too_long}
+use Rattle.pmb_recording.specs.Recording.{Step, at_begin, at_end, at_fault, at_fault_ending, at_heading, at_packet}
+use Rattle.pmb_recording.specs.Recording.{at_too_long}
 use Rattle.pmb_recording.specs.Recording.{following, fresh, given, is_followed, next_line, past_other_bus, quietly}
 use Rattle.pmb_recording.specs.Recording.{skipped}
 use Rattle.pmb_recording.specs.Told.{Reason, DoesNotFollow, MakesNoSense}
@@ -14,7 +15,7 @@ use Rattle.pmb_recording.specs.declared.recording.Recording.{Recording}
 use Rattle.pmb_recording.specs.declared.recording.PacketLines.{PacketLines}
 use Rattle.pmb_recording.specs.declared.wire_byte.WireByte.{WireByte}
 use Rattle.pmb_saleae.specs.Columns.{heading_of}
-use Rattle.pmb_saleae.specs.Row.{is_row, name_of, number_in, value_if}
+use Rattle.pmb_saleae.specs.Row.{is_row, lost_front, name_of, number_in, value_if}
 use Rattle.pmb_saleae.specs.Table.{event_of, settled}
 use Rattle.pmb_saleae.specs.Time.{time_of}
 use Rattle.pmb_saleae.specs.declared.columns.Columns.{Columns}
@@ -53,16 +54,16 @@ add_byte t b =
 abbrev pub repeat : Saleae → Saleae
 repeat t = record t { recording = given t.recording; is_at_start = true }
 
--- Behind a STOP reading begins, also where that does not follow.
-abbrev pub behind_stop : Step Saleae → Step Saleae
-behind_stop step = record step { now = record step.now { recording = skipped step.now.recording } }
+-- whether an event ends a packet
+abbrev pub is_stop : Event → Bool
+is_stop Stop = true
+is_stop Start = false
+is_stop (Address b) = false
+is_stop (Data b) = false
 
--- an event that does not follow
+-- An event that does not follow. Reading begins behind a STOP, also here.
 abbrev pub refuse : Saleae → Event → Step Saleae
-refuse t Stop = behind_stop (fault t DoesNotFollow)
-refuse t Start = fault t DoesNotFollow
-refuse t (Address b) = fault t DoesNotFollow
-refuse t (Data b) = fault t DoesNotFollow
+refuse t event = on t (at_fault_ending t.recording DoesNotFollow (is_stop event))
 
 -- Within a packet an address follows START alone, and START, STOP and other bytes follow a byte.
 abbrev pub inside : Saleae → Event → Step Saleae
@@ -105,34 +106,33 @@ take_event t time None = fault t MakesNoSense
 abbrev pub with_radix : Saleae → Columns → Record → Saleae
 with_radix t columns r = record t { radix = settled t.radix (number_in columns r) }
 
--- a row, which is a fault unless it has all its fields
+-- a row of the analyzer that is followed
 abbrev pub take_row : Saleae → Columns → Record → Step Saleae
 take_row t columns r =
-    if is_row columns r then
     take_event (with_radix t columns r) (value_if columns.start_time r)
     (event_of (with_radix t columns r).radix columns r)
-    else fault t MakesNoSense
 
--- a row of an analyzer, which is passed over if that is not followed
+-- A row of an analyzer is passed over if that is not followed, but not one that lost the front of its name.
 abbrev pub on_bus : Saleae → List ℕ → Columns → Record → Step Saleae
 on_bus t name columns r =
     if is_followed t.recording name then take_row t columns r else
+    if lost_front t.recording.bus.items name then fault t MakesNoSense else
     quietly (record t { recording = past_other_bus t.recording })
 
--- The first row whose analyzer can be read settles which is followed.
--- a row with the name of an analyzer, which is a fault where that is empty
-abbrev pub take_known : Saleae → List ℕ → Columns → Record → Step Saleae
-take_known t name columns r =
+-- A row with all its fields. The first that names an analyzer settles which is followed; one that names none is a fault.
+abbrev pub take_named : Saleae → List ℕ → Columns → Record → Step Saleae
+take_named t name columns r =
     if bytes_eq name [] then fault t MakesNoSense else
     on_bus (record t { recording = following t.recording name }) name columns r
 
-abbrev pub take_named : Saleae → Option (List ℕ) → Columns → Record → Step Saleae
-take_named t (Some name) columns r = take_known t name columns r
-take_named t None columns r = take_row t columns r
+-- A line under a heading is a row if it has as many fields, and else a fault, whatever analyzer it names.
+abbrev pub take_fields : Saleae → Columns → Record → Step Saleae
+take_fields t columns r =
+    if is_row columns r then take_named t (name_of columns r) columns r else fault t MakesNoSense
 
--- a row, which is a fault where no heading came
+-- a line that names no columns, which is a fault where no heading came
 abbrev pub under : Saleae → Option Columns → Record → Step Saleae
-under t (Some columns) r = take_named t (name_of columns r) columns r
+under t (Some columns) r = take_fields t columns r
 under t None r = fault t MakesNoSense
 
 -- A heading names the columns of the rows behind it.

@@ -1,8 +1,8 @@
 -- The rows of a table.
-use Rattle.std.specs.Prelude.{ℕ, true, false, Bool, Option, Some, None, if◌then◌else◌, List, [], ◌∷◌, codes}
+use Rattle.std.specs.Prelude.{ℕ, ◌||◌, true, false, Bool, Option, Some, None, if◌then◌else◌, List, [], ◌∷◌, ◌++◌, codes}
 use Rattle.std.specs.Str.{bytes_eq}
-use Rattle.pmb_csv.specs.Columns.{field, has_fields, value}
-use Rattle.pmb_csv.specs.Fields.{Record}
+use Rattle.pmb_csv.specs.Columns.{has_fields, value}
+use Rattle.pmb_csv.specs.Fields.{Record, quote}
 use Rattle.pmb_saleae.specs.Number.{number_of}
 use Rattle.pmb_saleae.specs.declared.columns.Columns.{Columns}
 use Rattle.pmb_saleae.specs.declared.number.Number.{Number}
@@ -13,19 +13,15 @@ use Rattle.pmb_saleae.specs.declared.row.Kind.TheVariants.{Start, Stop, Address,
 abbrev pub is_row : Columns → Record → Bool
 is_row columns r = has_fields columns.count r
 
--- without the last, which a cut of the line may have cut
-abbrev pub front : List (List ℕ) → List (List ℕ)
-front [] = []
-front (field ∷ []) = []
-front (field ∷ next ∷ fields) = field ∷ front (next ∷ fields)
+-- the analyzer's name
+abbrev pub name_of : Columns → Record → List ℕ
+name_of columns r = value columns.name r
 
--- the fields whose end the line shows
-abbrev pub known : Columns → Record → List (List ℕ)
-known columns r = if is_row columns r then r.fields else if r.is_whole then front r.fields else r.fields
-
--- the analyzer's name, where it can be read
-abbrev pub name_of : Columns → Record → Option (List ℕ)
-name_of columns r = field columns.name (known columns r)
+-- Whether a name is the end of another and a quote behind it. So it reads where its row stood in quotes and lost its
+-- front: `2C"` of `"I2C"`.
+abbrev pub lost_front : List ℕ → List ℕ → Bool
+lost_front [] name = bytes_eq name (quote ∷ [])
+lost_front (byte ∷ whole) name = bytes_eq name (byte ∷ (whole ++ quote ∷ [])) || lost_front whole name
 
 -- what a row is of
 abbrev pub kind_of : List ℕ → Kind

@@ -1,24 +1,20 @@
 -- The times of a table.
-use Rattle.std.specs.Prelude.{ℕ, ◌==◌, ◌&&◌, ◌||◌, true, false, Bool, Option, Some, None, is_some, if◌then◌else◌}
+use Rattle.std.specs.Prelude.{ℕ, ◌==◌, ◌&&◌, ◌||◌, true, false, Bool, Option, Some, None, if◌then◌else◌}
 use Rattle.std.specs.Prelude.{List, [], ◌∷◌}
-use Rattle.std.specs.Prelude.{◌++◌, codes, drop, take}
+use Rattle.std.specs.Prelude.{codes, drop, take}
+use Rattle.pmb_csv.specs.Columns.{has_quote}
+use Rattle.pmb_recording.specs.Recording.{with_unit}
+use Rattle.pmb_saleae.specs.Exponent.{behind_sign, is_decimal, point, written_out}
 use Rattle.pmb_saleae.specs.declared.time.Unit.{Unit}
 use Rattle.pmb_saleae.specs.declared.time.Unit.TheVariants.{Seconds, Date}
-use Rattle.pmb_words.specs.Numbers.{decimal_of, is_digit}
-use Rattle.pmb_words.specs.Parts.{Parted, after, parted}
+use Rattle.pmb_words.specs.Numbers.{is_digit}
+use Rattle.pmb_words.specs.Parts.{after, parted}
 
 -- ---- seconds
 
-abbrev pub are_digits : List ℕ → Bool
-are_digits text = is_some (decimal_of text)
-
-abbrev pub are_digits_behind : Option (List ℕ) → Bool
-are_digits_behind (Some text) = are_digits text
-are_digits_behind None = false
-
--- digits, a point, digits
-abbrev pub is_seconds : Parted → Bool
-is_seconds parts = are_digits parts.front && are_digits_behind parts.rest
+-- a decimal number, with a sign or without
+abbrev pub is_seconds : List ℕ → Bool
+is_seconds text = is_decimal (parted point (behind_sign text))
 
 -- ---- dates
 
@@ -33,10 +29,15 @@ has_form [] (byte ∷ text) = false
 has_form (formed ∷ form) [] = false
 has_form (formed ∷ form) (byte ∷ text) = fits formed byte && has_form form text
 
--- `Z`, `+hh:mm`, `+hhmm` or nothing
+-- `hh:mm` or `hhmm` behind a sign
+abbrev pub is_offset : List ℕ → Bool
+is_offset text =
+    has_form (codes "+00:00") text || (has_form (codes "+0000") text || (has_form (codes "-00:00") text
+    || has_form (codes "-0000") text))
+
+-- `Z`, an offset or nothing
 abbrev pub is_zone : List ℕ → Bool
-is_zone text =
-    has_form [] text || (has_form (codes "Z") text || (has_form (codes "+00:00") text || has_form (codes "+0000") text))
+is_zone text = has_form [] text || (has_form (codes "Z") text || is_offset text)
 
 -- digits, one at least, and a zone
 abbrev pub is_fraction_and_zone : Bool → List ℕ → Bool
@@ -63,13 +64,14 @@ is_date text = has_form date_form (take 19 text) && is_rest (drop 19 text)
 -- ---- the time of a START
 
 abbrev pub unit_of : List ℕ → Option Unit
-unit_of text = if is_seconds (parted 46 text) then Some Seconds else if is_date text then Some Date else None
+unit_of text = if is_seconds text then Some Seconds else if is_date text then Some Date else None
 
--- as it is told
+-- as it is told: as it stands, or without its exponent
 abbrev pub told : List ℕ → Option Unit → List ℕ
-told text (Some Seconds) = text ++ codes " s"
+told text (Some Seconds) = with_unit text (codes " s")
 told text (Some Date) = text
-told text None = []
+told text None = with_unit (written_out text) (codes " s")
 
+-- What has a quote is no time.
 abbrev pub time_of : List ℕ → List ℕ
-time_of text = told text (unit_of text)
+time_of text = if has_quote text then [] else told text (unit_of text)

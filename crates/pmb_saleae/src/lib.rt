@@ -4,6 +4,7 @@
 mod bus;
 mod columns;
 mod event;
+mod exponent;
 pub mod laws;
 mod number;
 mod row;

@@ -29,21 +29,23 @@ pub(crate) struct Row<'a> {
 }
 
 impl<'a> Row<'a> {
-    ghost use Rattle.std.specs.Prelude.{◌≡◌, option_copied, option_map};
+    ghost use Rattle.std.specs.Prelude.{◌≡◌, option_copied};
     ghost use Rattle.pmb_csv.specs.Columns.{plain_of, value};
     ghost use Rattle.pmb_csv.specs.Fields.{record_of};
     ghost use Rattle.pmb_csv.specs.Left.{text_of};
     ghost use Rattle.pmb_saleae.specs.Row.{is_row, kind_in, name_of, number_in, truth, value_if};
 
-    /// The analyzer's name, where it can be read: the last field of a line may have been cut.
-    pub(crate) fn name(&self) -> Option<Field<'a>>
-        ensures { option_map text_of result ≡ name_of self.now.columns (record_of self.now.line.now) }
+    /// The analyzer's name.
+    pub(crate) fn name(&self) -> Field<'a>
+        ensures { text_of result ≡ name_of self.now.columns (record_of self.now.line.now) }
     {
-        let field = field_at(self.line, self.columns.name)?;
-        if field.is_last && !self.is_whole() {
-            return None;
+        match field_at(self.line, self.columns.name) {
+            Some(field) => field,
+            None => Field {
+                raw: b"",
+                is_quoted: false,
+            },
         }
-        Some(field)
     }
 
     /// Whether it has all columns, and no more.

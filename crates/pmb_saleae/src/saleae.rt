@@ -1,6 +1,7 @@
 //! Packets, put together from the rows of a table of Logic 2.
 
-ghost use Rattle.std.specs.Prelude.{◌≡◌, ◌≤◌, Some, length, option_copied, OnOk};
+ghost use Rattle.std.specs.Prelude.{◌≡◌, ◌≤◌, Some, false, length, option_copied, OnOk};
+ghost use Rattle.pmb_csv.specs.Columns.{has_quote};
 ghost use Rattle.pmb_csv.specs.Fields.{record_of};
 ghost use Rattle.pmb_csv.specs.Left.{text_of};
 ghost use Rattle.pmb_io.specs.Calls.{WriterTells};
@@ -13,13 +14,14 @@ ghost use Rattle.pmb_recording.specs.Told.{reason_of};
 ghost use Rattle.pmb_recording.proofs.Runs.{imports_all};
 ghost use Rattle.pmb_saleae.specs.Packets.{add_byte, begin as begin_step, fault as fault_step, follow, inside, on_bus, outside};
 ghost use Rattle.pmb_saleae.specs.Packets.{refuse as refuse_step, skip as skip_step, start, take_content as content_step, take_end, take_line};
-ghost use Rattle.pmb_saleae.specs.Packets.{take_known as known_step, take_named as named_step, take_record as record_step, take_row as row_step};
-ghost use Rattle.pmb_saleae.specs.Row.{name_of, value_if};
+ghost use Rattle.pmb_saleae.specs.Packets.{take_fields as fields_step, take_named as named_step, take_record as record_step, take_row as row_step};
+ghost use Rattle.pmb_saleae.specs.Row.{value_if};
 ghost use Rattle.pmb_saleae.specs.declared.event.Event.TheVariants as event;
 
-use crate::bus::follow_field;
+use crate::bus::{Bus, follow_field};
 use crate::columns::{Columns, heading};
 use crate::event::{Event, event_of, settled};
+use crate::exponent::written_out;
 use crate::number::Radix;
 use crate::row::Row;
 use crate::time::{Unit, time_unit};
@@ -123,31 +125,31 @@ impl Saleae {
             return self.recording.take_heading(waiting, writer);
         }
         match self.columns {
-            Some(columns) => self.take_named(&Row { columns, line }, waiting, writer),
+            Some(columns) => self.take_fields(&Row { columns, line }, waiting, writer),
             None => self.fault(Fault::MakesNoSense, waiting, writer),
         }
     }
 
-    /// Takes a row, which may be of another analyzer.
-    fn take_named<W: Sink>(
+    /// Takes a line under a heading: a row if it has as many fields.
+    fn take_fields<W: Sink>(
         &mut self,
         row: &Row<'_>,
         waiting: &mut Waiting,
         writer: &mut W,
     ) -> Result<(), RunFault>
         requires short { length row.now.line.now ≤ most_content }
-        ensures now { self.new ≡ (named_step self.old (name_of row.now.columns (record_of row.now.line.now)) row.now.columns (record_of row.now.line.now)).now }
-        ensures puts { OnOk result (PutsText (W.told writer.old).held waiting.old.items (W.told writer.new).held waiting.new.items (named_step self.old (name_of row.now.columns (record_of row.now.line.now)) row.now.columns (record_of row.now.line.now)).text) }
+        ensures now { self.new ≡ (fields_step self.old row.now.columns (record_of row.now.line.now)).now }
+        ensures puts { OnOk result (PutsText (W.told writer.old).held waiting.old.items (W.told writer.new).held waiting.new.items (fields_step self.old row.now.columns (record_of row.now.line.now)).text) }
         ensures failed { WriterTells (W.told writer.old) (W.told writer.new) result }
     {
-        match row.name() {
-            Some(name) => self.take_known(&name, row, waiting, writer),
-            None => self.take_row(row, waiting, writer),
+        if !row.is_whole() {
+            return self.fault(Fault::MakesNoSense, waiting, writer);
         }
+        self.take_named(&row.name(), row, waiting, writer)
     }
 
     /// Takes a row with the name of an analyzer, which may be empty.
-    fn take_known<W: Sink>(
+    fn take_named<W: Sink>(
         &mut self,
         name: &Field<'_>,
         row: &Row<'_>,
@@ -156,8 +158,8 @@ impl Saleae {
     ) -> Result<(), RunFault>
         requires name { length (text_of name.now) ≤ most_text }
         requires short { length row.now.line.now ≤ most_content }
-        ensures now { self.new ≡ (known_step self.old (text_of name.now) row.now.columns (record_of row.now.line.now)).now }
-        ensures puts { OnOk result (PutsText (W.told writer.old).held waiting.old.items (W.told writer.new).held waiting.new.items (known_step self.old (text_of name.now) row.now.columns (record_of row.now.line.now)).text) }
+        ensures now { self.new ≡ (named_step self.old (text_of name.now) row.now.columns (record_of row.now.line.now)).now }
+        ensures puts { OnOk result (PutsText (W.told writer.old).held waiting.old.items (W.told writer.new).held waiting.new.items (named_step self.old (text_of name.now) row.now.columns (record_of row.now.line.now)).text) }
         ensures failed { WriterTells (W.told writer.old) (W.told writer.new) result }
     {
         if name.is(b"") {
@@ -181,11 +183,14 @@ impl Saleae {
         ensures failed { WriterTells (W.told writer.old) (W.told writer.new) result }
     {
         texts_add_up();
-        if follow_field(&mut self.recording, name) {
-            return self.take_row(row, waiting, writer);
+        match follow_field(&mut self.recording, name) {
+            Bus::Followed => self.take_row(row, waiting, writer),
+            Bus::Cut => self.fault(Fault::MakesNoSense, waiting, writer),
+            Bus::Other => {
+                self.recording.pass_other_bus();
+                Ok(())
+            }
         }
-        self.recording.pass_other_bus();
-        Ok(())
     }
 
     /// Takes a row of the analyzer that is followed.
@@ -200,9 +205,6 @@ impl Saleae {
         ensures puts { OnOk result (PutsText (W.told writer.old).held waiting.old.items (W.told writer.new).held waiting.new.items (row_step self.old row.now.columns (record_of row.now.line.now)).text) }
         ensures failed { WriterTells (W.told writer.old) (W.told writer.new) result }
     {
-        if !row.is_whole() {
-            return self.fault(Fault::MakesNoSense, waiting, writer);
-        }
         let number = row.number();
         self.radix = settled(self.radix, number);
         match event_of(self.radix, row, number) {
@@ -314,6 +316,7 @@ impl Saleae {
         waiting: &mut Waiting,
         writer: &mut W,
     ) -> Result<(), RunFault>
+        requires plain { has_quote time.now ≡ false }
         requires short { length time.now ≤ most_content }
         ensures now { self.new ≡ (begin_step self.old time.now event.Start).now }
         ensures puts { OnOk result (PutsText (W.told writer.old).held waiting.old.items (W.told writer.new).held waiting.new.items (begin_step self.old time.now event.Start).text) }
@@ -323,7 +326,11 @@ impl Saleae {
         match time_unit(time) {
             Some(Unit::Seconds) => self.recording.begin(time, b" s", waiting, writer),
             Some(Unit::Date) => self.recording.begin(time, b"", waiting, writer),
-            None => self.recording.begin(b"", b"", waiting, writer),
+            None => {
+                let seconds = written_out(time);
+                self.recording
+                    .begin(seconds.as_slice(), b" s", waiting, writer)
+            }
         }
     }
 
@@ -338,11 +345,12 @@ impl Saleae {
         ensures puts { OnOk result (PutsText (W.told writer.old).held waiting.old.items (W.told writer.new).held waiting.new.items (refuse_step self.old event).text) }
         ensures failed { WriterTells (W.told writer.old) (W.told writer.new) result }
     {
-        let told = self.fault(Fault::DoesNotFollow, waiting, writer);
-        if event == Event::Stop {
-            self.recording.end_skipping();
-        }
-        told
+        self.recording.take_fault_ending(
+            Fault::DoesNotFollow,
+            event == Event::Stop,
+            waiting,
+            writer,
+        )
     }
 
     /// Adds a byte to the packet under way, if it has room.

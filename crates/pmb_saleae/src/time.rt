@@ -1,11 +1,12 @@
 //! The time of a row.
 
-ghost use Rattle.std.specs.Prelude.{◌≡◌, false, option_copied};
+ghost use Rattle.std.specs.Prelude.{◌≡◌, false};
 ghost use Rattle.pmb_words.specs.Numbers.{is_digit};
-ghost use Rattle.pmb_saleae.specs.Time.{are_digits_behind, fits, has_form, is_date, is_fraction_and_zone, is_rest};
-ghost use Rattle.pmb_saleae.specs.Time.{is_zone, unit_of};
+ghost use Rattle.pmb_saleae.specs.Time.{fits, has_form, is_date, is_fraction_and_zone, is_offset, is_rest};
+ghost use Rattle.pmb_saleae.specs.Time.{is_seconds, is_zone, unit_of};
 
-use pmb_words::{behind, decimal, part};
+use crate::exponent::{is_decimal, signed};
+use pmb_words::{behind, part};
 
 /// A time: what is told behind it.
 #[derive(Clone, Copy, Drop, Debug, PartialEq, Eq)]
@@ -16,25 +17,23 @@ pub(crate) enum Unit {
     Date,
 }
 
-/// The form of a time: digits, a point, digits, or a date of ISO 8601.
+/// The form of a time that is told as it stands: a decimal number, or a date of ISO 8601.
 pub(crate) fn time_unit(time: &[u8]) -> Option<Unit>
     ensures { result ≡ unit_of time.now }
 {
-    let (front, rest) = part(b'.', time);
-    if decimal(front).is_some() && has_digits(rest) {
+    if seconds(time) {
         return Some(Unit::Seconds);
     }
     if date(time) { Some(Unit::Date) } else { None }
 }
 
-/// Whether digits follow a point.
-fn has_digits(rest: Option<&[u8]>) -> bool
-    ensures { result ≡ are_digits_behind (option_copied rest.entry) }
+/// A decimal number, with a sign or without.
+fn seconds(time: &[u8]) -> bool
+    ensures { result ≡ is_seconds time.now }
 {
-    match rest {
-        Some(digits) => decimal(digits).is_some(),
-        None => false,
-    }
+    let (_, digits) = signed(time);
+    let (front, rest) = part(b'.', digits);
+    is_decimal(front, rest)
 }
 
 /// The form of a date, which has 0 where any digit may stand.
@@ -77,14 +76,21 @@ fn ends_fraction(text: &[u8]) -> bool
     some
 }
 
-/// `Z`, `+hh:mm`, `+hhmm` or nothing.
+/// `Z`, an offset or nothing.
 fn zone(text: &[u8]) -> bool
     ensures { result ≡ is_zone text.now }
 {
-    fits_form(b"", text)
-        || fits_form(b"Z", text)
-        || fits_form(b"+00:00", text)
+    fits_form(b"", text) || fits_form(b"Z", text) || offset(text)
+}
+
+/// `hh:mm` or `hhmm` behind a sign.
+fn offset(text: &[u8]) -> bool
+    ensures { result ≡ is_offset text.now }
+{
+    fits_form(b"+00:00", text)
         || fits_form(b"+0000", text)
+        || fits_form(b"-00:00", text)
+        || fits_form(b"-0000", text)
 }
 
 /// Whether a text has a form, which has 0 where any digit may stand.

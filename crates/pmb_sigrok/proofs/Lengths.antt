@@ -2,7 +2,8 @@
 use Rattle.std.proofs.Common.{◌≡◌, ℕ, ◌≤◌, Option, Some, None, List, [], ◌∷◌}
 use Rattle.std.proofs.Common.{length, refl, arith}
 use Rattle.pmb_words.specs.Parts.{blank, parted}
-use Rattle.pmb_sigrok_line.specs.Line.{Line, annotation, behind_range, colon, decoder_line, named, with_name}
+use Rattle.pmb_sigrok_line.specs.Annotation.{behind_blank, colon}
+use Rattle.pmb_sigrok_line.specs.Line.{Line, behind_range, decoder_line, named, with_name}
 
 front_short : (at : ℕ) (text : List ℕ) → length (parted at text).front ≤ length text
 front_short at [] = omega arith
@@ -22,7 +23,7 @@ name_is sample (byte ∷ name) None l is = cc
 with_name_short : (sample : Option ℕ) (text : List ℕ) (l : Line) → with_name sample text ≡ Some l
     → length l.name ≤ length text
 with_name_short sample text l is =
-    rw (name_is sample (parted colon text).front (annotation (parted colon text).rest) l is) (front_short colon text)
+    rw (name_is sample (parted colon text).front (behind_blank (parted colon text).rest) l is) (front_short colon text)
 
 behind_short : (text word : List ℕ) (rest : Option (List ℕ)) (l : Line) → (parted blank text).rest ≡ rest
     → behind_range text word rest ≡ Some l → length l.name ≤ length text

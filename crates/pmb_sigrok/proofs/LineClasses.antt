@@ -13,9 +13,9 @@ use Rattle.pmb_recording.specs.declared.recording.Recording.{Recording}
 use Rattle.pmb_recording.specs.Classes.{LineClass, GivesEvents, SaysNothing, PassedOver, IsFault, given_if}
 use Rattle.pmb_sigrok.specs.Classes.{DoesAs, EachLineHasItsClass, Faulted, GivenText, Nothing, Cut, Packet, TooLong}
 use Rattle.pmb_sigrok.specs.Classes.{at_next_line, class_of, class_of_decoded, class_on_bus, class_of_event}
-use Rattle.pmb_sigrok.specs.Classes.{class_of_said, may_stand}
+use Rattle.pmb_sigrok.specs.Classes.{class_of_said, class_of_settled, may_stand}
 use Rattle.pmb_sigrok.specs.Packets.{after_skipped, fault, follow, go_on, inside, is_answered, moved}
-use Rattle.pmb_sigrok.specs.Packets.{next_place, on, said}
+use Rattle.pmb_sigrok.specs.Packets.{next_place, on, refuse, said, settling, take_settled}
 use Rattle.pmb_recording.specs.Wire.{most_wire}
 use Rattle.pmb_sigrok.specs.Packets.{on_bus, outside, take_content, take_decoded, take_said, within}
 use Rattle.pmb_sigrok.specs.declared.sigrok.Place.{Place}
@@ -32,7 +32,20 @@ bool_cases false = inr refl
 
 -- a fault is told, and no packet is left
 faulted : (s : Sigrok) (reason : Reason) → Faulted s (fault s reason)
-faulted s reason = record { reason = reason; told = refl; is_counted = omega arith; is_gone = refl; skips = refl }
+faulted s reason =
+    record { reason = reason; told = refl; is_counted = omega arith; is_gone = refl; skips = inl refl }
+
+-- so is an event that does not follow
+refused : (s : Sigrok) (event : Event) → Faulted s (refuse s event)
+refused s Stop =
+    record { reason = DoesNotFollow; told = refl; is_counted = omega arith; is_gone = refl; skips = inr (refl, refl) }
+refused s Start = faulted s DoesNotFollow
+refused s Repeat = faulted s DoesNotFollow
+refused s (Answer acknowledged) = faulted s DoesNotFollow
+refused s (Mark reads) = faulted s DoesNotFollow
+refused s Bit = faulted s DoesNotFollow
+refused s (Address reads byte) = faulted s DoesNotFollow
+refused s (Data reads byte) = faulted s DoesNotFollow
 
 -- ---- events
 
@@ -43,11 +56,11 @@ OfEvent IsFault s step = Faulted s step
 OfEvent SaysNothing s step = ⊥
 OfEvent PassedOver s step = ⊥
 
--- a step that is taken where a test holds, and else is a fault
-tested : (s : Sigrok) (b : Bool) (step : Step Sigrok) (reason : Reason) → GivenText s step.text
-    → OfEvent (given_if b) s (if b then step else fault s reason)
-tested s true step reason given = given
-tested s false step reason given = faulted s reason
+-- a step that is taken where a test holds, and else is refused
+tested : (s : Sigrok) (b : Bool) (event : Event) (step : Step Sigrok) → GivenText s step.text
+    → OfEvent (given_if b) s (if b then step else refuse s event)
+tested s true event step given = given
+tested s false event step given = refused s event
 
 room : (s : Sigrok) (event : Event) (place : Place) (is_full : Bool)
     → GivenText s (if is_full then on s (at_too_long s.recording false) else quietly (moved s event place)).text
@@ -57,17 +70,17 @@ room s event place false = Nothing refl
 going : (s : Sigrok) (event : Event) (place : Option Place) → OfEvent (given_if (is_some place)) s (go_on s event place)
 going s event (Some place) =
     room s event place (is_byte event && nat_le most_wire (length s.recording.wire.items))
-going s event None = faulted s DoesNotFollow
+going s event None = refused s event
 
 -- where no packet is under way, what is skipped is quiet
 skipping : (s : Sigrok) (event : Event) → OfEvent (given_if s.recording.is_skipping) s (outside s event)
 skipping s event =
-    tested s s.recording.is_skipping (quietly (after_skipped s event)) DoesNotFollow (Nothing refl)
+    tested s s.recording.is_skipping event (quietly (after_skipped s event)) (Nothing refl)
 
 standing : (s : Sigrok) (packet : Option PacketLines) (event : Event)
     → OfEvent (given_if (may_stand packet s event)) s (within packet (inside s event) (outside s event))
 standing s None event = skipping s event
-standing s (Some lines) Stop = tested s (is_answered s.place) (on s (at_packet s.recording)) DoesNotFollow (Packet refl)
+standing s (Some lines) Stop = tested s (is_answered s.place) Stop (on s (at_packet s.recording)) (Packet refl)
 standing s (Some lines) Start = going s Start (next_place s.place Start)
 standing s (Some lines) Repeat = going s Repeat (next_place s.place Repeat)
 standing s (Some lines) Bit = going s Bit (next_place s.place Bit)
@@ -153,25 +166,38 @@ if_false false x y is = refl
 
 -- it holds of the bus that is followed from this line on
 with_bus : (s : Sigrok) (l : line.Line) (r : Recording) → r ≡ following s.recording l.name
-    → DoesAs (class_on_bus (record s { recording = r }) l) s (on_bus (record s { recording = r }) l)
-    → DoesAs (class_of_decoded s (Some l)) s (take_decoded s (Some l))
+    → DoesAs (class_of_settled (record s { recording = r }) l) s (take_settled (record s { recording = r }) l)
+    → DoesAs (class_of_settled (record s { recording = following s.recording l.name }) l) s
+    (take_settled (record s { recording = following s.recording l.name }) l)
 with_bus s l r is does =
     subst (λ (r : Recording).
-    DoesAs (class_on_bus (record s { recording = r }) l) s (on_bus (record s { recording = r }) l)) is does
+    DoesAs (class_of_settled (record s { recording = r }) l) s (take_settled (record s { recording = r }) l)) is does
+
+-- with no other bus than before
+as_before : (s : Sigrok) (l : line.Line) (b : Bool)
+    → DoesAs (if b then class_on_bus s l else IsFault) s (if b then on_bus s l else fault s MakesNoSense)
+as_before s l true = on_known s l (bytes_eq s.recording.bus.items l.name)
+as_before s l false = faulted s MakesNoSense
 
 on_either : (s : Sigrok) (l : line.Line) → (s.recording.follows_bus ≡ true) ⊎ (s.recording.follows_bus ≡ false)
-    → DoesAs (class_of_decoded s (Some l)) s (take_decoded s (Some l))
+    → DoesAs (class_of_settled (record s { recording = following s.recording l.name }) l) s
+    (take_settled (record s { recording = following s.recording l.name }) l)
 on_either s l (inl known) =
     with_bus s l s.recording
     (sym (if_true s.recording.follows_bus s.recording (settled s l.name).recording known))
-    (on_known s l (bytes_eq s.recording.bus.items l.name))
+    (as_before s l s.recording.follows_bus)
 on_either s l (inr first) =
     with_bus s l (settled s l.name).recording
     (sym (if_false s.recording.follows_bus s.recording (settled s l.name).recording first))
     (on_first s l (bytes_eq l.name l.name) ((bytes_eq-Decides l.name l.name).1 refl))
 
+of_settling : (s : Sigrok) (l : line.Line) (event : Option Event)
+    → DoesAs (class_of_settled (settling s l event) l) s (take_settled (settling s l event) l)
+of_settling s l (Some event) = on_either s l (bool_cases s.recording.follows_bus)
+of_settling s l None = as_before s l s.recording.follows_bus
+
 of_decoded : (s : Sigrok) (l : Option line.Line) → DoesAs (class_of_decoded s l) s (take_decoded s l)
-of_decoded s (Some l) = on_either s l (bool_cases s.recording.follows_bus)
+of_decoded s (Some l) = of_settling s l l.event
 of_decoded s None = faulted s MakesNoSense
 
 -- ---- lines

@@ -1,14 +1,14 @@
 -- The four classes of the lines of a recording, and what becomes of a line of each.
-use Rattle.std.specs.Prelude.{◌≡◌, ℕ, ◌<◌, ◌==◌, true, false, Bool, Option, Some, None, is_some, List, [], ◌++◌}
+use Rattle.std.specs.Prelude.{◌≡◌, ℕ, ◌<◌, ◌==◌, true, false, Bool, Option, Some, None, is_some, List, [], ◌++◌, ◌⊎◌}
 use Rattle.std.specs.Prelude.{if◌then◌else◌}
 use Rattle.pmb_io.specs.Lines.{TextLine}
 use Rattle.pmb_recording.specs.Classes.{LineClass, GivesEvents, SaysNothing, PassedOver, IsFault, given_if}
 use Rattle.pmb_recording.specs.Content.{content}
-use Rattle.pmb_recording.specs.Recording.{Step, cut_text, first_line, following, is_followed, next_line}
+use Rattle.pmb_recording.specs.Recording.{Step, cut_text, first_line, is_followed, next_line}
 use Rattle.pmb_recording.specs.Recording.{past_other_bus, quietly}
-use Rattle.pmb_recording.specs.Told.{Reason, at_line, packet_text, reason_text, time_line, too_long_line}
+use Rattle.pmb_recording.specs.Told.{Reason, DoesNotFollow, at_line, packet_text, reason_text, time_line, too_long_line}
 use Rattle.pmb_recording.specs.declared.recording.PacketLines.{PacketLines}
-use Rattle.pmb_sigrok.specs.Packets.{is_answered, next_place, said, take_line}
+use Rattle.pmb_sigrok.specs.Packets.{is_answered, next_place, said, settling, take_line}
 use Rattle.pmb_sigrok.specs.declared.sigrok.Sigrok.{Sigrok}
 use Rattle.pmb_sigrok_line.specs.Line as line
 use Rattle.pmb_sigrok_line.specs.declared.event.Event.{Event}
@@ -40,9 +40,13 @@ class_of_said s None = IsFault
 abbrev pub class_on_bus : Sigrok → line.Line → LineClass
 class_on_bus s l = if is_followed s.recording l.name then class_of_said s (said s.form l.event) else PassedOver
 
--- a line that is no remark: the first that can be read settles the bus
+-- Before the bus is settled a line is of none.
+abbrev pub class_of_settled : Sigrok → line.Line → LineClass
+class_of_settled s l = if s.recording.follows_bus then class_on_bus s l else IsFault
+
+-- a line that is no remark: the first that says an event settles the bus
 abbrev pub class_of_decoded : Sigrok → Option line.Line → LineClass
-class_of_decoded s (Some l) = class_on_bus (record s { recording = following s.recording l.name }) l
+class_of_decoded s (Some l) = class_of_settled (settling s l l.event) l
 class_of_decoded s None = IsFault
 
 -- The class of a line by what it holds, which is nothing where it is too long or lacks its LF.
@@ -61,13 +65,14 @@ pub data GivenText (s : Sigrok) (text : List ℕ) : Type 0 where
   TooLong : text ≡ too_long_line s.recording.line (first_line s.recording.packet) → GivenText s text
 
 -- A fault: it is told with its line and a reason, after the packet that it cuts, and counted. No packet is under way
--- after it, and lines that can't begin one are skipped.
+-- after it, and lines that can't begin one are skipped, but behind a STOP that does not follow.
 pub record Faulted (s : Sigrok) (step : Step Sigrok) : Type 0 where
   pub reason : Reason
   pub told : step.text ≡ cut_text s.recording.packet ++ at_line s.recording.line (reason_text reason)
   pub is_counted : 0 < step.now.recording.troubles
   pub is_gone : step.now.recording.packet ≡ None
-  pub skips : step.now.recording.is_skipping ≡ true
+  pub skips : (step.now.recording.is_skipping ≡ true)
+      ⊎ ((reason ≡ DoesNotFollow) × (step.now.recording.is_skipping ≡ false))
 
 -- A step does what a class says. A line that says nothing changes nothing, and one of another bus only the count of
 -- those; neither tells anything.

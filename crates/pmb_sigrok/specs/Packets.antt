@@ -3,8 +3,8 @@ use Rattle.std.specs.Prelude.{ℕ, ◌+◌, ◌*◌, ◌%◌, ◌==◌, ◌&&◌
 use Rattle.std.specs.Prelude.{if◌then◌else◌, List, [], ◌∷◌, ◌++◌, length}
 use Rattle.pmb_io.specs.Lines.{TextLine}
 use Rattle.pmb_recording.specs.Content.{content}
-use Rattle.pmb_recording.specs.Recording.{Step, at_begin, at_end, at_fault, at_packet, at_too_long, following, fresh}
-use Rattle.pmb_recording.specs.Recording.{given, is_followed, next_line, past_other_bus, quietly, skipped}
+use Rattle.pmb_recording.specs.Recording.{Step, at_begin, at_end, at_fault, at_fault_ending, at_packet, at_too_long}
+use Rattle.pmb_recording.specs.Recording.{following, fresh, given, is_followed, next_line, past_other_bus, quietly, skipped}
 use Rattle.pmb_recording.specs.Told.{Reason, DoesNotFollow, MakesNoSense}
 use Rattle.pmb_recording.specs.Wire.{bit_of, most_wire, same}
 use Rattle.pmb_recording.specs.declared.recording.Recording.{Recording}
@@ -144,6 +144,21 @@ on s step = record { now = record s { recording = step.now }; text = step.text }
 abbrev pub fault : Sigrok → Reason → Step Sigrok
 fault s reason = on s (at_fault s.recording reason)
 
+-- whether an event ends a packet
+abbrev pub is_stop : Event → Bool
+is_stop Stop = true
+is_stop Start = false
+is_stop Repeat = false
+is_stop (Answer acknowledged) = false
+is_stop (Mark reads) = false
+is_stop Bit = false
+is_stop (Address reads byte) = false
+is_stop (Data reads byte) = false
+
+-- An event that does not follow. Reading begins behind a STOP, also here.
+abbrev pub refuse : Sigrok → Event → Step Sigrok
+refuse s event = on s (at_fault_ending s.recording DoesNotFollow (is_stop event))
+
 -- the packet goes on to a place, and the event is given
 abbrev pub moved : Sigrok → Event → Place → Sigrok
 moved s event place = record s {
@@ -154,14 +169,14 @@ moved s event place = record s {
 -- An event of the packet under way, by where that then stands: a fault where it may not follow, and a packet that is too
 -- long where its byte has no room.
 abbrev pub go_on : Sigrok → Event → Option Place → Step Sigrok
-go_on s event None = fault s DoesNotFollow
+go_on s event None = refuse s event
 go_on s event (Some place) =
     if is_byte event && nat_le most_wire (length s.recording.wire.items) then on s (at_too_long s.recording false) else
     quietly (moved s event place)
 
 -- STOP ends the packet under way
 abbrev pub stopped : Sigrok → Step Sigrok
-stopped s = if is_answered s.place then on s (at_packet s.recording) else fault s DoesNotFollow
+stopped s = if is_answered s.place then on s (at_packet s.recording) else refuse s Stop
 
 -- an event where a packet is under way
 abbrev pub inside : Sigrok → Event → Step Sigrok
@@ -175,7 +190,7 @@ after_skipped s event = s
 
 -- an event that can't begin a packet, where none is under way
 abbrev pub outside : Sigrok → Event → Step Sigrok
-outside s event = if s.recording.is_skipping then quietly (after_skipped s event) else fault s DoesNotFollow
+outside s event = if s.recording.is_skipping then quietly (after_skipped s event) else refuse s event
 
 -- one of two steps, by whether a packet is under way
 abbrev pub within : Option PacketLines → Step Sigrok → Step Sigrok → Step Sigrok
@@ -208,10 +223,19 @@ on_bus s l =
     if is_followed s.recording l.name then take_said s l.sample (said s.form l.event) else
     quietly (record s { recording = past_other_bus s.recording })
 
+-- The first line that says an event settles the bus.
+abbrev pub settling : Sigrok → line.Line → Option Event → Sigrok
+settling s l (Some event) = record s { recording = following s.recording l.name }
+settling s l None = s
+
+-- Before that a line is of no bus.
+abbrev pub take_settled : Sigrok → line.Line → Step Sigrok
+take_settled s l = if s.recording.follows_bus then on_bus s l else fault s MakesNoSense
+
 -- a line that is no remark: one of the decoder, or a fault
 abbrev pub take_decoded : Sigrok → Option line.Line → Step Sigrok
 take_decoded s None = fault s MakesNoSense
-take_decoded s (Some l) = on_bus (record s { recording = following s.recording l.name }) l
+take_decoded s (Some l) = take_settled (settling s l l.event) l
 
 -- what a line holds: too long, or without its LF, it is a fault
 abbrev pub take_content : Sigrok → Option (List ℕ) → Step Sigrok

@@ -15,7 +15,7 @@ ghost use Rattle.pmb_sigrok_line.specs.Shown.{line_shown};
 ghost use Rattle.pmb_sigrok.specs.Packets.{address_byte as byte_of_address, after_address as place_after_address, after_answer as place_after_answer};
 ghost use Rattle.pmb_sigrok.specs.Packets.{after_data as place_after_data, after_mark as place_after_mark, answered, begun, fault as at_fault_of};
 ghost use Rattle.pmb_sigrok.specs.Packets.{follow as event_step, go_on as step_to, inside, is_answered as is_answered_place, next_place as place_after};
-ghost use Rattle.pmb_sigrok.specs.Packets.{on_bus as line_step, on_wire as event_on_wire, outside, said as event_said, start, stopped};
+ghost use Rattle.pmb_sigrok.specs.Packets.{on_bus as line_step, on_wire as event_on_wire, outside, refuse as refuse_step, said as event_said, start, stopped};
 ghost use Rattle.pmb_sigrok.specs.Packets.{take_content as content_step, take_decoded as decoded_step, take_end, take_line, take_said as said_step, unanswered as byte_to_answer, wire_after};
 
 use arrayvec::ArrayVec;
@@ -81,6 +81,25 @@ impl Sigrok {
         self.recording.take_fault(fault, waiting, writer)
     }
 
+    /// Takes an event that does not follow. Reading goes on behind a STOP.
+    fn refuse<W: Sink>(
+        &mut self,
+        event: Event,
+        waiting: &mut Waiting,
+        writer: &mut W,
+    ) -> Result<(), RunFault>
+        ensures now { self.new ≡ (refuse_step self.old event).now }
+        ensures puts { OnOk result (PutsText (W.told writer.old).held waiting.old.items (W.told writer.new).held waiting.new.items (refuse_step self.old event).text) }
+        ensures failed { WriterTells (W.told writer.old) (W.told writer.new) result }
+    {
+        self.recording.take_fault_ending(
+            Fault::DoesNotFollow,
+            event == Event::Stop,
+            waiting,
+            writer,
+        )
+    }
+
     /// Takes a line of the input.
     fn take_next<W: Sink>(
         &mut self,
@@ -122,7 +141,7 @@ impl Sigrok {
         }
     }
 
-    /// Takes a line of the decoder. The first settles the bus.
+    /// Takes a line of the decoder. The first that says an event settles the bus.
     fn take_decoded<W: Sink>(
         &mut self,
         line: Line<'_>,
@@ -134,7 +153,12 @@ impl Sigrok {
         ensures puts { OnOk result (PutsText (W.told writer.old).held waiting.old.items (W.told writer.new).held waiting.new.items (decoded_step self.old (Some (line_shown line.entry))).text) }
         ensures failed { WriterTells (W.told writer.old) (W.told writer.new) result }
     {
-        self.recording.follow(line.name);
+        if line.event.is_some() {
+            self.recording.follow(line.name);
+        }
+        if !self.recording.follows_bus {
+            return self.fault(Fault::MakesNoSense, waiting, writer);
+        }
         self.take_on_bus(line, waiting, writer)
     }
 
@@ -223,7 +247,7 @@ impl Sigrok {
     {
         texts_add_up();
         if !self.recording.is_skipping {
-            return self.fault(Fault::DoesNotFollow, waiting, writer);
+            return self.refuse(event, waiting, writer);
         }
         if event == Event::Stop {
             self.recording.end_skipping();
@@ -255,7 +279,7 @@ impl Sigrok {
         ensures failed { WriterTells (W.told writer.old) (W.told writer.new) result }
     {
         if !is_answered(self.place) {
-            return self.fault(Fault::DoesNotFollow, waiting, writer);
+            return self.refuse(Event::Stop, waiting, writer);
         }
         self.recording.end_packet(waiting, writer)
     }
@@ -274,7 +298,7 @@ impl Sigrok {
     {
         texts_add_up();
         let Some(place) = place else {
-            return self.fault(Fault::DoesNotFollow, waiting, writer);
+            return self.refuse(event, waiting, writer);
         };
         if event.is_byte() && self.recording.wire.is_full() {
             return self.recording.drop_long(false, waiting, writer);

@@ -8,16 +8,16 @@ use Rattle.std.proofs.lemmas.Bool.Decides.{eqb_tells}
 use Rattle.hex.specs.Hex.{hex_digit_value}
 use Rattle.pmb_words.specs.Numbers.{byte_of, with_digit}
 use Rattle.pmb_words.specs.Parts.{after}
-use Rattle.pmb_sigrok_line.specs.Annotation.{ByteForm, Form, bit_forms, bits_row, bus_forms, bus_row, byte_event}
+use Rattle.pmb_sigrok_line.specs.Annotation.{ByteForm, Form, bit_forms, bus_forms, byte_event}
 use Rattle.pmb_sigrok_line.specs.Annotation.{byte_forms}
-use Rattle.pmb_sigrok_line.specs.Annotation.{digits_of, event_in, forms, long_of, or_event, plain_event, quote, quoted}
+use Rattle.pmb_sigrok_line.specs.Annotation.{digits_of, spelled_event, forms, long_of, or_event, plain_event, quote, quoted}
 use Rattle.pmb_sigrok_line.specs.Annotation.{two_digits, with_byte}
 use Rattle.pmb_sigrok_line.specs.declared.event.Event.{Event}
 use Rattle.pmb_sigrok_line.specs.machine.Shapes.{again, among, before_quote, between, bit_word, bus_byte, bus_event}
 use Rattle.pmb_sigrok_line.specs.machine.Shapes.{bus_word}
 use Rattle.pmb_sigrok_line.specs.machine.Shapes.{if_again, long_byte, long_event, long_front, long_word, longer}
 use Rattle.pmb_sigrok_line.specs.machine.Shapes.{of_rest}
-use Rattle.pmb_sigrok_line.specs.machine.Shapes.{quoted_event, repeated_digits, row_event, shaped, short_event, spelled}
+use Rattle.pmb_sigrok_line.specs.machine.Shapes.{quoted_event, repeated_digits, shaped, short_event, spelled}
 use Rattle.pmb_sigrok_line.proofs.Spellings.{Every, Reads, ReadsByte, byte_read, every_both, every_so, or_cases}
 use Rattle.pmb_sigrok_line.proofs.Spellings.{plain_read, texts}
 
@@ -89,22 +89,22 @@ not_quote a b v is =
 -- ---- each spelling is given its event
 
 bus_shaped : Every (Reads shaped) bus_forms
-unfolding shaped short_event bus_event bus_word bus_byte bit_word long_event long_word long_byte row_event quoted_event
+unfolding shaped short_event bus_event bus_word bus_byte bit_word long_event long_word long_byte quoted_event
     repeated_digits
 bus_shaped = (
-  record { plain = refl; in_quotes = refl; long = refl; in_row = refl },
+  record { plain = refl; in_quotes = refl; long = refl },
   (
-    record { plain = refl; in_quotes = refl; long = refl; in_row = refl },
+    record { plain = refl; in_quotes = refl; long = refl },
     (
-      record { plain = refl; in_quotes = refl; long = refl; in_row = refl },
+      record { plain = refl; in_quotes = refl; long = refl },
       (
-        record { plain = refl; in_quotes = refl; long = refl; in_row = refl },
+        record { plain = refl; in_quotes = refl; long = refl },
         (
-          record { plain = refl; in_quotes = refl; long = refl; in_row = refl },
+          record { plain = refl; in_quotes = refl; long = refl },
           (
-            record { plain = refl; in_quotes = refl; long = refl; in_row = refl },
+            record { plain = refl; in_quotes = refl; long = refl },
             (
-              record { plain = refl; in_quotes = refl; long = refl; in_row = refl },
+              record { plain = refl; in_quotes = refl; long = refl },
               tt,
             ),
           ),
@@ -115,12 +115,12 @@ bus_shaped = (
 )
 
 bits_shaped : Every (Reads shaped) bit_forms
-unfolding shaped short_event bus_event bus_word bus_byte bit_word long_event long_word long_byte row_event quoted_event
+unfolding shaped short_event bus_event bus_word bus_byte bit_word long_event long_word long_byte quoted_event
     repeated_digits
 bits_shaped = (
-  record { plain = refl; in_quotes = refl; long = refl; in_row = refl },
+  record { plain = refl; in_quotes = refl; long = refl },
   (
-    record { plain = refl; in_quotes = refl; long = refl; in_row = refl },
+    record { plain = refl; in_quotes = refl; long = refl },
     tt,
   ),
 )
@@ -133,35 +133,31 @@ is_same : (a : ℕ) → (a == a) ≡ true
 is_same a = eq-eqb a a refl
 
 bytes_shaped : Every (ReadsByte shaped) byte_forms
-unfolding shaped short_event bus_event bus_word bus_byte bit_word long_event long_word long_byte row_event quoted_event
+unfolding shaped short_event bus_event bus_word bus_byte bit_word long_event long_word long_byte quoted_event
     repeated_digits
 bytes_shaped = (
   record {
     plain = λ a b v byte_is. simp byte_is;
     in_quotes = λ a b v byte_is. simp byte_is;
     long = λ a b v byte_is. simp (is_same a, is_same b, byte_is);
-    in_row = λ a b v byte_is. simp byte_is;
   },
   (
     record {
       plain = λ a b v byte_is. simp byte_is;
       in_quotes = λ a b v byte_is. simp byte_is;
       long = λ a b v byte_is. simp (is_same a, is_same b, byte_is);
-      in_row = λ a b v byte_is. simp byte_is;
     },
     (
       record {
         plain = λ a b v byte_is. simp byte_is;
         in_quotes = λ a b v byte_is. simp byte_is;
         long = λ a b v byte_is. simp (is_same a, is_same b, byte_is);
-        in_row = λ a b v byte_is. simp byte_is;
       },
       (
         record {
           plain = λ a b v byte_is. simp byte_is;
           in_quotes = λ a b v byte_is. simp byte_is;
           long = λ a b v byte_is. simp (is_same a, is_same b, byte_is);
-          in_row = λ a b v byte_is. simp byte_is;
         },
         tt,
       ),
@@ -171,22 +167,22 @@ bytes_shaped = (
 
 -- ---- each spelling has its event
 
-bus_said : Every (Reads event_in) bus_forms
-unfolding event_in
+bus_said : Every (Reads spelled_event) bus_forms
+unfolding spelled_event
 bus_said = (
-  record { plain = refl; in_quotes = refl; long = refl; in_row = refl },
+  record { plain = refl; in_quotes = refl; long = refl },
   (
-    record { plain = refl; in_quotes = refl; long = refl; in_row = refl },
+    record { plain = refl; in_quotes = refl; long = refl },
     (
-      record { plain = refl; in_quotes = refl; long = refl; in_row = refl },
+      record { plain = refl; in_quotes = refl; long = refl },
       (
-        record { plain = refl; in_quotes = refl; long = refl; in_row = refl },
+        record { plain = refl; in_quotes = refl; long = refl },
         (
-          record { plain = refl; in_quotes = refl; long = refl; in_row = refl },
+          record { plain = refl; in_quotes = refl; long = refl },
           (
-            record { plain = refl; in_quotes = refl; long = refl; in_row = refl },
+            record { plain = refl; in_quotes = refl; long = refl },
             (
-              record { plain = refl; in_quotes = refl; long = refl; in_row = refl },
+              record { plain = refl; in_quotes = refl; long = refl },
               tt,
             ),
           ),
@@ -196,45 +192,41 @@ bus_said = (
   ),
 )
 
-bits_said : Every (Reads event_in) bit_forms
-unfolding event_in
+bits_said : Every (Reads spelled_event) bit_forms
+unfolding spelled_event
 bits_said = (
-  record { plain = refl; in_quotes = refl; long = refl; in_row = refl },
+  record { plain = refl; in_quotes = refl; long = refl },
   (
-    record { plain = refl; in_quotes = refl; long = refl; in_row = refl },
+    record { plain = refl; in_quotes = refl; long = refl },
     tt,
   ),
 )
 
-bytes_said : Every (ReadsByte event_in) byte_forms
-unfolding event_in
+bytes_said : Every (ReadsByte spelled_event) byte_forms
+unfolding spelled_event
 bytes_said = (
   record {
     plain = λ a b v byte_is. simp (not_quote a b v byte_is, is_same a, is_same b, byte_is);
     in_quotes = λ a b v byte_is. simp (is_same a, is_same b, byte_is);
     long = λ a b v byte_is. simp (is_same a, is_same b, byte_is);
-    in_row = λ a b v byte_is. simp (not_quote a b v byte_is, is_same a, is_same b, byte_is);
   },
   (
     record {
       plain = λ a b v byte_is. simp (not_quote a b v byte_is, is_same a, is_same b, byte_is);
       in_quotes = λ a b v byte_is. simp (is_same a, is_same b, byte_is);
       long = λ a b v byte_is. simp (is_same a, is_same b, byte_is);
-      in_row = λ a b v byte_is. simp (not_quote a b v byte_is, is_same a, is_same b, byte_is);
     },
     (
       record {
         plain = λ a b v byte_is. simp (not_quote a b v byte_is, is_same a, is_same b, byte_is);
         in_quotes = λ a b v byte_is. simp (is_same a, is_same b, byte_is);
         long = λ a b v byte_is. simp (is_same a, is_same b, byte_is);
-        in_row = λ a b v byte_is. simp (not_quote a b v byte_is, is_same a, is_same b, byte_is);
       },
       (
         record {
           plain = λ a b v byte_is. simp (not_quote a b v byte_is, is_same a, is_same b, byte_is);
           in_quotes = λ a b v byte_is. simp (is_same a, is_same b, byte_is);
           long = λ a b v byte_is. simp (is_same a, is_same b, byte_is);
-          in_row = λ a b v byte_is. simp (not_quote a b v byte_is, is_same a, is_same b, byte_is);
         },
         tt,
       ),
@@ -242,48 +234,13 @@ bytes_said = (
   ),
 )
 
-forms_said : Every (Reads event_in) forms
-forms_said = every_both (Reads event_in) bus_forms bit_forms bus_said bits_said
-
-rows_said : Every (λ (g : Form). event_in (bus_row ++ g.text) ≡ Some g.event) bus_forms
-unfolding event_in
-rows_said = (
-  refl,
-  (
-    refl,
-    (
-      refl,
-      (
-        refl,
-        (
-          refl,
-          (
-            refl,
-            (
-              refl,
-              tt,
-            ),
-          ),
-        ),
-      ),
-    ),
-  ),
-)
-
-bit_rows_said : Every (λ (g : Form). event_in (bits_row ++ g.text) ≡ Some g.event) bit_forms
-unfolding event_in
-bit_rows_said = (
-  refl,
-  (
-    refl,
-    tt,
-  ),
-)
+forms_said : Every (Reads spelled_event) forms
+forms_said = every_both (Reads spelled_event) bus_forms bit_forms bus_said bits_said
 
 -- ---- complete: an annotation's event is given
 
-complete : (text : List ℕ) (e : Event) → event_in text ≡ Some e → shaped text ≡ Some e
-unfolding event_in
+complete : (text : List ℕ) (e : Event) → spelled_event text ≡ Some e → shaped text ≡ Some e
+unfolding spelled_event
 complete text e is =
     elim (or_cases (plain_event forms text) (byte_event byte_forms text (digits_of text)) e is) [
       | inl plain ↦ plain_read shaped forms forms_shaped text e plain
@@ -393,79 +350,59 @@ short_read f words bits bytes text e is =
       | inr bit ↦ bits_read f bits text e bit.1
     ]
 
-plain_said : (text : List ℕ) (e : Event) → short_event text ≡ Some e → event_in text ≡ Some e
+plain_said : (text : List ℕ) (e : Event) → short_event text ≡ Some e → spelled_event text ≡ Some e
 plain_said =
-    short_read event_in (every_so _ _ (λ (g : Form) (r : Reads event_in g). r.plain) bus_forms bus_said)
-    (every_so _ _ (λ (g : Form) (r : Reads event_in g). r.plain) bit_forms bits_said)
-    (every_so _ _ (λ (g : ByteForm) (r : ReadsByte event_in g). r.plain) byte_forms bytes_said)
+    short_read spelled_event (every_so _ _ (λ (g : Form) (r : Reads spelled_event g). r.plain) bus_forms bus_said)
+    (every_so _ _ (λ (g : Form) (r : Reads spelled_event g). r.plain) bit_forms bits_said)
+    (every_so _ _ (λ (g : ByteForm) (r : ReadsByte spelled_event g). r.plain) byte_forms bytes_said)
 
-quoted_said : (text : List ℕ) (e : Event) → short_event text ≡ Some e → event_in (quoted text) ≡ Some e
+quoted_said : (text : List ℕ) (e : Event) → short_event text ≡ Some e → spelled_event (quoted text) ≡ Some e
 quoted_said =
-    short_read (λ (text : List ℕ). event_in (quoted text))
-    (every_so _ _ (λ (g : Form) (r : Reads event_in g). r.in_quotes) bus_forms bus_said)
-    (every_so _ _ (λ (g : Form) (r : Reads event_in g). r.in_quotes) bit_forms bits_said)
-    (every_so _ _ (λ (g : ByteForm) (r : ReadsByte event_in g). r.in_quotes) byte_forms bytes_said)
-
-bus_row_said : (text : List ℕ) (e : Event) → bus_event text ≡ Some e → event_in (bus_row ++ text) ≡ Some e
-bus_row_said =
-    bus_read (λ (text : List ℕ). event_in (bus_row ++ text)) rows_said
-    (every_so _ _ (λ (g : ByteForm) (r : ReadsByte event_in g). r.in_row) byte_forms bytes_said)
+    short_read (λ (text : List ℕ). spelled_event (quoted text))
+    (every_so _ _ (λ (g : Form) (r : Reads spelled_event g). r.in_quotes) bus_forms bus_said)
+    (every_so _ _ (λ (g : Form) (r : Reads spelled_event g). r.in_quotes) bit_forms bits_said)
+    (every_so _ _ (λ (g : ByteForm) (r : ReadsByte spelled_event g). r.in_quotes) byte_forms bytes_said)
 
 -- a long spelling with a byte is its front, two digits, and those again
 long_is : (g : ByteForm) (a b : ℕ) → long_front g ++ a ∷ b ∷ (between g ++ again a b) ≡ long_of g (a ∷ b ∷ [])
 long_is g a b = simp append_assoc
 
-long_said : (text : List ℕ) (e : Event) → long_event text ≡ Some e → event_in text ≡ Some e
+long_said : (text : List ℕ) (e : Event) → long_event text ≡ Some e → spelled_event text ≡ Some e
 unfolding long_event long_word long_byte
 long_said text e is =
     elim (or_cases (long_word text) (long_byte text) e is) [
-      | inl word ↦ spelled_read event_in (λ (g : Form). g.long) forms
-          (every_so _ _ (λ (g : Form) (r : Reads event_in g). r.long) forms forms_said) text e word
+      | inl word ↦ spelled_read spelled_event (λ (g : Form). g.long) forms
+          (every_so _ _ (λ (g : Form) (r : Reads spelled_event g). r.long) forms forms_said) text e word
       | inr byte ↦
-          among_read event_in long_front (λ (g : ByteForm) (rest : List ℕ). repeated_digits (between g) rest) byte_forms
-          (every_so (ReadsByte event_in) _ (λ (g : ByteForm) (r : ReadsByte event_in g).
-          repeated_read (λ (rest : List ℕ) (v : ℕ). event_in (long_front g ++ rest) ≡ Some (g.event v)) (between g)
-          (λ (a b v : ℕ) (byte_is : byte_of a b ≡ Some v). ap event_in (long_is g a b) ∙ r.long a b v byte_is))
+          among_read spelled_event long_front (λ (g : ByteForm) (rest : List ℕ). repeated_digits (between g) rest) byte_forms
+          (every_so (ReadsByte spelled_event) _ (λ (g : ByteForm) (r : ReadsByte spelled_event g).
+          repeated_read (λ (rest : List ℕ) (v : ℕ). spelled_event (long_front g ++ rest) ≡ Some (g.event v)) (between g)
+          (λ (a b v : ℕ) (byte_is : byte_of a b ≡ Some v). ap spelled_event (long_is g a b) ∙ r.long a b v byte_is))
           byte_forms bytes_said)
           text e byte.1
     ]
 
-row_said : (text : List ℕ) (e : Event) → row_event text ≡ Some e → event_in text ≡ Some e
-unfolding row_event
-row_said text e is =
-    elim (rest_cases bus_event (after bus_row text) (of_rest bit_word (after bits_row text) None) e is) [
-      | inl bus ↦ ap event_in (after_gives bus_row text bus.0 bus.1) ∙ bus_row_said bus.0 e bus.2
-      | inr other ↦ elim (rest_cases bit_word (after bits_row text) None e other.1) [
-        | inl bit ↦ ap event_in (after_gives bits_row text bit.0 bit.1)
-            ∙ bits_read (λ (text : List ℕ). event_in (bits_row ++ text)) bit_rows_said bit.0 e bit.2
-        | inr none ↦ let no = none.1 in cc
-      ]
-    ]
-
 in_quotes_said : (text rest : List ℕ) (e : Event) → text ≡ quote ++ rest → quoted_event rest ≡ Some e
-    → event_in text ≡ Some e
+    → spelled_event text ≡ Some e
 unfolding quoted_event
 in_quotes_said text rest e begins is =
     elim (rest_cases short_event (before_quote rest) None e is) [
       | inl inner ↦
-          ap event_in (begins ∙ ap (λ (r : List ℕ). quote ++ r) (before_quote_gives rest inner.0 inner.1))
+          ap spelled_event (begins ∙ ap (λ (r : List ℕ). quote ++ r) (before_quote_gives rest inner.0 inner.1))
           ∙ quoted_said inner.0 e inner.2
       | inr none ↦ let no = none.1 in cc
     ]
 
-sound : (text : List ℕ) (e : Event) → shaped text ≡ Some e → event_in text ≡ Some e
+sound : (text : List ℕ) (e : Event) → shaped text ≡ Some e → spelled_event text ≡ Some e
 unfolding shaped
 sound text e is =
     elim (rest_cases quoted_event (after quote text)
-    (or_event (short_event text) (or_event (long_event text) (row_event text))) e is) [
+    (or_event (short_event text) (long_event text)) e is) [
       | inl in_quotes ↦
           in_quotes_said text in_quotes.0 e (after_gives quote text in_quotes.0 in_quotes.1) in_quotes.2
-      | inr other ↦ elim (or_cases (short_event text) (or_event (long_event text) (row_event text)) e other.1) [
+      | inr other ↦ elim (or_cases (short_event text) (long_event text) e other.1) [
         | inl short ↦ plain_said text e short
-        | inr later ↦ elim (or_cases (long_event text) (row_event text) e later.1) [
-          | inl long ↦ long_said text e long
-          | inr row ↦ row_said text e row.1
-        ]
+        | inr long ↦ long_said text e long.1
       ]
     ]
 
@@ -478,5 +415,5 @@ same_of None (Some e) complete sound = sym (sound e refl)
 same_of None None complete sound = refl
 
 -- the shapes in turn give the event of the annotation
-pub shaped_is : (text : List ℕ) → shaped text ≡ event_in text
-shaped_is text = same_of (event_in text) (shaped text) (complete text) (sound text)
+pub shaped_is : (text : List ℕ) → shaped text ≡ spelled_event text
+shaped_is text = same_of (spelled_event text) (shaped text) (complete text) (sound text)

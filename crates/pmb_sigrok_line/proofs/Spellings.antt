@@ -4,7 +4,7 @@ use Rattle.std.proofs.Common.{◌∙◌, ap, inl, inr, ◌⊎◌}
 use Rattle.std.specs.Str.{bytes_eq}
 use Rattle.std.proofs.lemmas.Slice.Eq.{bytes_eq-Decides}
 use Rattle.pmb_words.specs.Numbers.{byte_of}
-use Rattle.pmb_sigrok_line.specs.Annotation.{ByteForm, Form, bus_row, byte_event, has_byte_form, has_form, long_of}
+use Rattle.pmb_sigrok_line.specs.Annotation.{ByteForm, Form, byte_event, has_byte_form, has_form, long_of}
 use Rattle.pmb_sigrok_line.specs.Annotation.{or_event}
 use Rattle.pmb_sigrok_line.specs.Annotation.{plain_event, quoted, two_digits, with_byte}
 use Rattle.pmb_sigrok_line.specs.declared.event.Event.{Event}
@@ -48,7 +48,6 @@ pub record Reads (f : List ℕ → Option Event) (g : Form) : Type 0 where
   pub plain : f g.text ≡ Some g.event
   pub in_quotes : f (quoted g.text) ≡ Some g.event
   pub long : f g.long ≡ Some g.event
-  pub in_row : f g.in_row ≡ Some g.event
 
 pub form_read : (f : List ℕ → Option Event) (g : Form) → Reads f g → (text : List ℕ) → has_form text g ≡ true
     → f text ≡ Some g.event
@@ -59,10 +58,7 @@ form_read f g reads text has =
         | inl b ↦ ap f b.1 ∙ reads.in_quotes
         | inr b ↦ elim (texts text g.long) [
           | inl c ↦ ap f c.1 ∙ reads.long
-          | inr c ↦ elim (texts text g.in_row) [
-            | inl d ↦ ap f d.1 ∙ reads.in_row
-            | inr d ↦ let none = simp (a, b, c, d) at has in cc
-          ]
+          | inr c ↦ let none = simp (a, b, c) at has in cc
         ]
       ]
     ]
@@ -106,7 +102,6 @@ pub record ReadsByte (f : List ℕ → Option Event) (g : ByteForm) : Type 0 whe
   pub plain : (a b v : ℕ) → byte_of a b ≡ Some v → f (g.text ++ a ∷ b ∷ []) ≡ Some (g.event v)
   pub in_quotes : (a b v : ℕ) → byte_of a b ≡ Some v → f (quoted (g.text ++ a ∷ b ∷ [])) ≡ Some (g.event v)
   pub long : (a b v : ℕ) → byte_of a b ≡ Some v → f (long_of g (a ∷ b ∷ [])) ≡ Some (g.event v)
-  pub in_row : (a b v : ℕ) → byte_of a b ≡ Some v → f (bus_row ++ (g.text ++ a ∷ b ∷ [])) ≡ Some (g.event v)
 
 pub byte_form_read : (f : List ℕ → Option Event) (g : ByteForm) → ReadsByte f g → (text : List ℕ) (a b v : ℕ)
     → byte_of a b ≡ Some v → has_byte_form text (a ∷ b ∷ []) g ≡ true → f text ≡ Some (g.event v)
@@ -117,10 +112,7 @@ byte_form_read f g reads text a b v byte_is has =
         | inl i ↦ ap f i.1 ∙ reads.in_quotes a b v byte_is
         | inr i ↦ elim (texts text (long_of g (a ∷ b ∷ []))) [
           | inl j ↦ ap f j.1 ∙ reads.long a b v byte_is
-          | inr j ↦ elim (texts text (bus_row ++ (g.text ++ a ∷ b ∷ []))) [
-            | inl k ↦ ap f k.1 ∙ reads.in_row a b v byte_is
-            | inr k ↦ let none = simp (h, i, j, k) at has in cc
-          ]
+          | inr j ↦ let none = simp (h, i, j) at has in cc
         ]
       ]
     ]

@@ -1,7 +1,9 @@
 -- What an annotation of sigrok's I2C decoder says: the text of a line after the decoder's name.
 use Rattle.std.specs.Prelude.{ℕ, ◌||◌, true, false, Bool, Option, Some, None, if◌then◌else◌, List, [], ◌∷◌, ◌++◌, codes}
-use Rattle.std.specs.Str.{bytes_eq}
+use Rattle.std.specs.Prelude.{slice_index}
+use Rattle.std.specs.Str.{bytes_eq, str_eq_ignore_ascii_case}
 use Rattle.pmb_words.specs.Numbers.{byte_of}
+use Rattle.pmb_words.specs.Parts.{after, parted}
 use Rattle.pmb_sigrok_line.specs.declared.event.Event.{Event}
 use Rattle.pmb_sigrok_line.specs.declared.event.Event.TheVariants.{Start, Repeat, Stop, Answer, Mark, Bit, Address}
 use Rattle.pmb_sigrok_line.specs.declared.event.Event.TheVariants.{Data}
@@ -17,6 +19,10 @@ is_byte (Answer acknowledged) = false
 is_byte (Mark reads) = false
 is_byte Bit = false
 
+-- the byte of a colon
+abbrev pub colon : ℕ
+colon = slice_index (codes ":") 0
+
 -- ---- the forms of an annotation
 
 -- the byte of a quote, as a text
@@ -31,19 +37,10 @@ quoted text = quote ++ (text ++ quote)
 abbrev pub levelled : List ℕ → List ℕ → List ℕ → List ℕ
 levelled class text shorter = class ++ (codes ": " ++ (quoted text ++ shorter))
 
--- the row of what happens on the bus, as PulseView names it
-abbrev pub bus_row : List ℕ
-bus_row = codes "Address/Data: "
-
--- the row of bits
-abbrev pub bits_row : List ℕ
-bits_row = codes "Bits: "
-
--- An annotation without a byte: its event, its text, how PulseView writes it in its row, and how levels 4 and 5 do.
+-- An annotation without a byte: its event, its text, and how levels 4 and 5 write it.
 pub record Form : Type 0 where
   pub event : Event
   pub text : List ℕ
-  pub in_row : List ℕ
   pub long : List ℕ
 
 -- the form of what happens on the bus, by its text, its class and the shorter texts
@@ -51,7 +48,6 @@ abbrev pub bus_form : Event → List ℕ → List ℕ → List ℕ → Form
 bus_form event text class shorter = record {
   event = event;
   text = text;
-  in_row = bus_row ++ text;
   long = levelled class text shorter;
 }
 
@@ -60,7 +56,6 @@ abbrev pub bit_form : List ℕ → Form
 bit_form text = record {
   event = Bit;
   text = text;
-  in_row = bits_row ++ text;
   long = levelled (codes "bit") text [];
 }
 
@@ -83,10 +78,9 @@ bit_forms = bit_form (codes "0") ∷ bit_form (codes "1") ∷ []
 abbrev pub forms : List Form
 forms = bus_forms ++ bit_forms
 
--- whether a text is an annotation, in one of its four spellings
+-- whether a text is an annotation, in one of its three spellings
 abbrev pub has_form : List ℕ → Form → Bool
-has_form text f =
-    bytes_eq text f.text || (bytes_eq text (quoted f.text) || (bytes_eq text f.long || bytes_eq text f.in_row))
+has_form text f = bytes_eq text f.text || (bytes_eq text (quoted f.text) || bytes_eq text f.long)
 
 -- the event of a text among some forms, none where it has none of them
 abbrev pub plain_event : List Form → List ℕ → Option Event
@@ -136,11 +130,10 @@ without_quote (byte ∷ next ∷ text) = byte ∷ without_quote (next ∷ text)
 abbrev pub digits_of : List ℕ → List ℕ
 digits_of text = last_two (without_quote text)
 
--- whether a text is an annotation with these digits, in one of its four spellings
+-- whether a text is an annotation with these digits, in one of its three spellings
 abbrev pub has_byte_form : List ℕ → List ℕ → ByteForm → Bool
 has_byte_form text digits f =
-    bytes_eq text (f.text ++ digits) || (bytes_eq text (quoted (f.text ++ digits))
-    || (bytes_eq text (long_of f digits) || bytes_eq text (bus_row ++ (f.text ++ digits))))
+    bytes_eq text (f.text ++ digits) || (bytes_eq text (quoted (f.text ++ digits)) || bytes_eq text (long_of f digits))
 
 -- the byte of two hexadecimal digits, none of any other text
 abbrev pub two_digits : List ℕ → Option ℕ
@@ -165,6 +158,55 @@ abbrev pub or_event : Option Event → Option Event → Option Event
 or_event (Some event) other = Some event
 or_event None other = other
 
--- The event that an annotation says, in one of its forms. Any other text says none.
+-- the event of an annotation in one of its spellings, without a label
+unfoldable pub spelled_event : List ℕ → Option Event
+spelled_event text = or_event (plain_event forms text) (byte_event byte_forms text (digits_of text))
+
+-- ---- labels
+
+-- a label, in capital letters or small ones
+abbrev pub named : List ℕ → List ℕ → Bool
+named label name = str_eq_ignore_ascii_case label name
+
+-- the row of what happens on the bus, or the name of a class or what sigrok says of that
+abbrev pub names_bus : List ℕ → List ℕ → List ℕ → Bool
+names_bus label class description =
+    named label (codes "address/data") || (named label class || named label description)
+
+-- PulseView writes the row of an annotation in front of it, or its class.
+abbrev pub is_label : Event → List ℕ → Bool
+is_label Start label = names_bus label (codes "start") (codes "start condition")
+is_label Repeat label =
+    named label (codes "start repeat") || names_bus label (codes "repeat-start") (codes "repeat start condition")
+is_label Stop label = names_bus label (codes "stop") (codes "stop condition")
+is_label (Answer true) label = names_bus label (codes "ack") (codes "ack")
+is_label (Answer false) label = names_bus label (codes "nack") (codes "nack")
+is_label (Mark true) label = names_bus label (codes "address-read") (codes "address read")
+is_label (Mark false) label = names_bus label (codes "address-write") (codes "address write")
+is_label Bit label = named label (codes "bits") || (named label (codes "bit") || named label (codes "data/address bit"))
+is_label (Address true byte) label = names_bus label (codes "address-read") (codes "address read")
+is_label (Address false byte) label = names_bus label (codes "address-write") (codes "address write")
+is_label (Data true byte) label = names_bus label (codes "data-read") (codes "data read")
+is_label (Data false byte) label = names_bus label (codes "data-write") (codes "data write")
+
+-- an event behind a label that it may have
+abbrev pub if_labelled : List ℕ → Option Event → Option Event
+if_labelled label (Some event) = if is_label event label then Some event else None
+if_labelled label None = None
+
+-- what follows a colon and a blank
+abbrev pub behind_blank : Option (List ℕ) → Option (List ℕ)
+behind_blank (Some text) = after (codes " ") text
+behind_blank None = None
+
+abbrev pub labelled_by : List ℕ → Option (List ℕ) → Option Event
+labelled_by label (Some text) = if_labelled label (spelled_event text)
+labelled_by label None = None
+
+-- `Address/Data: Start`, `Start condition: Start`: a label up to the first colon, and an annotation
+abbrev pub labelled_event : List ℕ → Option Event
+labelled_event text = labelled_by (parted colon text).front (behind_blank (parted colon text).rest)
+
+-- The event that an annotation says, with a label or without. Any other text says none.
 unfoldable pub event_in : List ℕ → Option Event
-event_in text = or_event (plain_event forms text) (byte_event byte_forms text (digits_of text))
+event_in text = or_event (spelled_event text) (labelled_event text)

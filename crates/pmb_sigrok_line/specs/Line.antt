@@ -4,12 +4,8 @@ use Rattle.std.specs.Prelude.{◌∷◌}
 use Rattle.std.specs.Prelude.{codes, slice_index}
 use Rattle.pmb_words.specs.Numbers.{decimal_of, fitting_of}
 use Rattle.pmb_words.specs.Parts.{after, blank, parted}
-use Rattle.pmb_sigrok_line.specs.Annotation.{event_in}
+use Rattle.pmb_sigrok_line.specs.Annotation.{behind_blank, colon, event_in}
 use Rattle.pmb_sigrok_line.specs.declared.event.Event.{Event}
-
--- the byte of a colon
-abbrev pub colon : ℕ
-colon = slice_index (codes ":") 0
 
 -- the byte of a dash
 abbrev pub dash : ℕ
@@ -29,14 +25,9 @@ named sample (byte ∷ name) (Some text) =
     Some (record { sample = sample; name = byte ∷ name; event = event_in text })
 named sample (byte ∷ name) None = None
 
--- the annotation after a colon and a blank
-abbrev pub annotation : Option (List ℕ) → Option (List ℕ)
-annotation (Some text) = after (codes " ") text
-annotation None = None
-
 -- The name is all up to the first colon, which a blank has to follow.
 abbrev pub with_name : Option ℕ → List ℕ → Option Line
-with_name sample text = named sample (parted colon text).front (annotation (parted colon text).rest)
+with_name sample text = named sample (parted colon text).front (behind_blank (parted colon text).rest)
 
 -- whether both parts of a word are decimal numbers
 abbrev pub are_numbers : List ℕ → Option (List ℕ) → Bool

@@ -1,27 +1,91 @@
 //! The event of an annotation, in each form that the decoder writes.
 
 ghost use Rattle.std.specs.Prelude.{◌≡◌, option_copied};
-ghost use Rattle.pmb_sigrok_line.specs.Annotation.{event_in as event_of_annotation, two_digits as byte_of_digits, with_byte};
+ghost use Rattle.pmb_sigrok_line.specs.Annotation.{event_in as event_of_annotation, is_label as may_label, labelled_event as event_behind_label, named as label_named, names_bus as bus_named, spelled_event as event_spelled, two_digits as byte_of_digits, with_byte};
 ghost use Rattle.pmb_sigrok_line.specs.declared.event.Event.TheVariants.{Address, Data};
-ghost use Rattle.pmb_sigrok_line.specs.machine.Shapes.{before_quote as before_quote_of, bit_word as bit_of_word, bus_byte as byte_of_bus, bus_event as event_of_bus, bus_word as event_of_word, long_byte as byte_of_long, long_event as event_of_long, long_word as event_of_long_word, quoted_event as event_in_quotes, repeated_digits as byte_of_repeated, row_event as event_of_row, short_event as event_of_short};
+ghost use Rattle.pmb_sigrok_line.specs.machine.Shapes.{before_quote as before_quote_of, bit_word as bit_of_word, bus_byte as byte_of_bus, bus_event as event_of_bus, bus_word as event_of_word, long_byte as byte_of_long, long_event as event_of_long, long_word as event_of_long_word, quoted_event as event_in_quotes, repeated_digits as byte_of_repeated, short_event as event_of_short};
 
 use crate::event::Event;
-use pmb_words::{behind, byte};
+use pmb_words::{behind, byte, part};
 
 /// The event that an annotation says: `Start`; `"Start"`, as at level 3; `start: "Start" "S"`, as
-/// at levels 4 and 5; or `Address/Data: Start`, as PulseView writes it.
+/// at levels 4 and 5; and each of these behind a label, as `Address/Data: Start` of PulseView.
+#[tactic(auto, unfolding(crate::specs::Annotation::event_in))]
 pub(crate) fn event_in(text: &[u8]) -> Option<Event>
     ensures { result ≡ event_of_annotation text.now }
+{
+    match spelled_event(text) {
+        Some(event) => Some(event),
+        None => labelled_event(text),
+    }
+}
+
+/// Of an annotation behind a label.
+fn labelled_event(text: &[u8]) -> Option<Event>
+    ensures { result ≡ event_behind_label text.now }
+{
+    let (label, rest) = part(b':', text);
+    let event = spelled_event(behind(b" ", rest?)?)?;
+    if is_label(event, label) {
+        Some(event)
+    } else {
+        None
+    }
+}
+
+/// Whether PulseView may write a label in front of an event: the row of its annotation, or its
+/// class.
+fn is_label(event: Event, label: &[u8]) -> bool
+    ensures { result ≡ may_label event label.now }
+{
+    match event {
+        Event::Start => names_bus(label, b"start", b"start condition"),
+        Event::Repeat => {
+            named(label, b"start repeat")
+                || names_bus(label, b"repeat-start", b"repeat start condition")
+        }
+        Event::Stop => names_bus(label, b"stop", b"stop condition"),
+        Event::Answer(true) => names_bus(label, b"ack", b"ack"),
+        Event::Answer(false) => names_bus(label, b"nack", b"nack"),
+        Event::Bit => {
+            named(label, b"bits") || named(label, b"bit") || named(label, b"data/address bit")
+        }
+        Event::Mark(true) | Event::Address(true, _) => {
+            names_bus(label, b"address-read", b"address read")
+        }
+        Event::Mark(false) | Event::Address(false, _) => {
+            names_bus(label, b"address-write", b"address write")
+        }
+        Event::Data(true, _) => names_bus(label, b"data-read", b"data read"),
+        Event::Data(false, _) => names_bus(label, b"data-write", b"data write"),
+    }
+}
+
+/// Whether a label is the row of what happens on the bus, or a class by its name or by what sigrok
+/// says of it.
+fn names_bus(label: &[u8], class: &[u8], description: &[u8]) -> bool
+    ensures { result ≡ bus_named label.now class.now description.now }
+{
+    named(label, b"address/data") || named(label, class) || named(label, description)
+}
+
+/// Whether a label is a name, in capital letters or small ones.
+fn named(label: &[u8], name: &[u8]) -> bool
+    ensures { result ≡ label_named label.now name.now }
+{
+    label.eq_ignore_ascii_case(name)
+}
+
+/// Of an annotation without a label.
+fn spelled_event(text: &[u8]) -> Option<Event>
+    ensures { result ≡ event_spelled text.now }
 {
     if let Some(rest) = behind(b"\"", text) {
         return quoted_event(rest);
     }
-    if let Some(event) = short_event(text) {
-        return Some(event);
-    }
-    match long_event(text) {
+    match short_event(text) {
         Some(event) => Some(event),
-        None => row_event(text),
+        None => long_event(text),
     }
 }
 
@@ -197,16 +261,5 @@ fn repeated_digits(between: &[u8], text: &[u8]) -> Option<u8>
         byte(*high, *low)
     } else {
         None
-    }
-}
-
-/// Of `Address/Data: Start` or `Bits: 1`.
-#[tactic(auto, unfolding(crate::specs::machine::Shapes::row_event))]
-fn row_event(text: &[u8]) -> Option<Event>
-    ensures { result ≡ event_of_row text.now }
-{
-    match behind(b"Address/Data: ", text) {
-        Some(rest) => bus_event(rest),
-        None => bit_word(behind(b"Bits: ", text)?),
     }
 }

@@ -1,9 +1,11 @@
 -- The words of an event are no longer than its line: for `take_text` and `take_own`.
 use Rattle.std.proofs.Common.{◌≡◌, ◌≤◌, ◌+◌, ◌==◌, ℕ, Bool, true, false, Option, Some, None, List, [], ◌∷◌, arith, codes}
-use Rattle.std.proofs.Common.{if◌then◌else◌, is_some, length, refl}
+use Rattle.std.proofs.Common.{if◌then◌else◌, is_some, length, refl, subst}
+use Rattle.std.specs.Str.{bytes_eq}
 use Rattle.pmb_recording.specs.Content.{most_content}
 use Rattle.pmb_words.specs.Parts.{after, blank, from_first, longer, parted, pieces}
 use Rattle.pmb_trace.specs.Line.{Event, Heading, Loss, Nothing, TraceLine, Says, any_loss, before_colon, colon, event_at, event_in, event_seconds}
+use Rattle.pmb_trace.specs.Line.{as_closed, before_end, comment_end, event_before, event_of_line, if_closed, opens_comment}
 use Rattle.pmb_trace.specs.Line.{fraction_in, is_fraction, lost_or, name_of, point, says, trace_line, unlost, with_front}
 use Rattle.pmb_trace.specs.declared.event_name.EventName.{EventName}
 use Rattle.pmb_smbus.specs.Views.{AreAtMost, IsShortEvent}
@@ -38,6 +40,28 @@ first_are_short n [] short = tt
 first_are_short n ([] ∷ words) short = first_are_short n words short.1
 first_are_short n ((byte ∷ word) ∷ words) short = short
 
+-- ---- a text before the end of a comment
+
+abbrev IsAtMost : ℕ → Option (List ℕ) → Type 0
+IsAtMost n (Some text) = length text ≤ n
+IsAtMost n None = Unit {0}
+
+front_is_at_most : (n byte : ℕ) (here : Bool) (text : Option (List ℕ)) → IsAtMost n text
+    → IsAtMost (n + 1) (if here then Some [] else with_front byte text)
+front_is_at_most n byte true text short = omega arith
+front_is_at_most n byte false (Some text) short = omega arith
+front_is_at_most n byte false None short = tt
+
+at_most_more : (n m : ℕ) (text : Option (List ℕ)) → n ≤ m → IsAtMost n text → IsAtMost m text
+at_most_more n m (Some text) more short = omega arith
+at_most_more n m None more short = tt
+
+before_end_is_short : (end text : List ℕ) → IsAtMost (length text) (before_end end text)
+before_end_is_short end [] = tt
+before_end_is_short end (byte ∷ text) =
+    at_most_more (length text + 1) (length (byte ∷ text)) (before_end end (byte ∷ text)) (omega arith)
+    (front_is_at_most (length text) byte (bytes_eq (byte ∷ text) end) (before_end end text) (before_end_is_short end text))
+
 -- ---- events
 
 abbrev IsShort : ℕ → Event → Type 0
@@ -59,6 +83,37 @@ event_is_short n front ([] ∷ words) e short_front short is = event_is_short n 
 event_is_short n front ((byte ∷ word) ∷ words) e short_front short is =
     at_is_short n front words (name_of (byte ∷ word)) (event_in (byte ∷ word) words) e short_front short.1
     (event_is_short n (byte ∷ word) words e short.0 short.1) is
+
+-- ---- comments
+
+-- a comment's end leaves no more of it
+closed_is_short : (n : ℕ) (opens closes : Bool) (e : Event) → IsShort n e → IsShort n (as_closed opens closes e)
+closed_is_short n true true e short = short
+closed_is_short n false false e short = short
+closed_is_short n true false e short = (short.0, tt)
+closed_is_short n false true e short = (short.0, tt)
+
+if_closed_is_short : (n : ℕ) (closes : Bool) (found : Option Event) (e : Event)
+    → ((e : Event) → found ≡ Some e → IsShort n e) → if_closed closes found ≡ Some e → IsShort n e
+if_closed_is_short n closes (Some found) e short is =
+    let same : as_closed (opens_comment found.front) closes found ≡ e = cc in
+    subst (λ (e : Event). IsShort n e) same
+    (closed_is_short n (opens_comment found.front) closes found (short found refl))
+if_closed_is_short n closes None e short is = cc
+
+text_is_short : (n : ℕ) (text : List ℕ) (e : Event) → length text ≤ n → event_in [] (pieces blank text) ≡ Some e
+    → IsShort n e
+text_is_short n text e short is =
+    event_is_short n [] (pieces blank text) e (omega arith)
+    (weaker (length text) n (pieces blank text) short (pieces_are_short blank text)) is
+
+before_is_short : (n : ℕ) (before : Option (List ℕ)) (text : List ℕ) (e : Event) → IsAtMost n before → length text ≤ n
+    → event_before before text ≡ Some e → IsShort n e
+before_is_short n (Some front) text e short_front short is =
+    if_closed_is_short n true (event_in [] (pieces blank front)) e
+    (λ e is. text_is_short n front e short_front is) is
+before_is_short n None text e short_front short is =
+    if_closed_is_short n false (event_in [] (pieces blank text)) e (λ e is. text_is_short n text e short is) is
 
 -- ---- lines
 
@@ -92,8 +147,9 @@ line_is_short text e short is =
     short_within (length text) most_content e short
     (lost_is_short (length text) (any_loss text) (unlost text) e
     (unlost_is_short (length text) (is_some (after (codes "# tracer:") text)) (is_some (after (codes "#") text))
-    (is_some (after (codes "cpus=") text)) (event_in [] (pieces blank text)) e
-    (event_is_short (length text) [] (pieces blank text) e (omega arith) (pieces_are_short blank text))) is)
+    (is_some (after (codes "cpus=") text)) (event_of_line text) e
+    (before_is_short (length text) (before_end comment_end text) text e (before_end_is_short comment_end text)
+    (omega arith))) is)
 
 -- ---- times
 

@@ -1,6 +1,6 @@
 -- The four classes of the lines of a recording, and what becomes of a line of each.
 use Rattle.std.specs.Prelude.{◌≡◌, ℕ, ◌<◌, ◌==◌, ◌&&◌, ◌||◌, true, false, Bool, Option, Some, None, is_none, List, []}
-use Rattle.std.specs.Prelude.{◌++◌, if◌then◌else◌}
+use Rattle.std.specs.Prelude.{◌++◌, if◌then◌else◌, is_some, not}
 use Rattle.pmb_io.specs.Lines.{TextLine}
 use Rattle.pmb_recording.specs.Classes.{LineClass, GivesEvents, SaysNothing, PassedOver, IsFault, given_if}
 use Rattle.pmb_recording.specs.Content.{content}
@@ -13,7 +13,8 @@ use Rattle.pmb_trace.specs.Fields.{event_bus}
 use Rattle.pmb_trace.specs.Line as line
 use Rattle.pmb_smbus.specs.Events.{Replies, Reads, Result, Says, Unreadable, Writes, own_fault}
 use Rattle.pmb_smbus.specs.Packets.{legs_wire, packet_wire}
-use Rattle.pmb_smbus.specs.Transfers.{event_says, has_its_reply, may_end, may_reply, on, take_line, with_recording}
+use Rattle.pmb_smbus.specs.Transfers.{event_says, has_its_reply, is_result, may_end, may_reply, on, take_line}
+use Rattle.pmb_smbus.specs.Transfers.{with_recording}
 use Rattle.pmb_smbus.specs.declared.events.Head.{Head}
 use Rattle.pmb_smbus.specs.declared.transfers.Transfers.{Transfers}
 
@@ -81,21 +82,36 @@ pub data Passed (s : Transfers) (step : Step Transfers) : Type 0 where
   OtherBus : step ≡ with_recording s (past_other_bus s.recording) → Passed s step
   OtherKind : step ≡ with_recording s (past_other_kind s.recording) → Passed s step
 
+-- whether a line is a result whose bus can be read
+abbrev pub ends_event : List (List ℕ) → Option Says → Bool
+ends_event fields (Some said) = is_some (event_bus fields) && is_result said
+ends_event fields None = false
+
+abbrev pub ends_line : line.TraceLine → Bool
+ends_line line.Nothing = false
+ends_line line.Heading = false
+ends_line (line.Lost count) = false
+ends_line (line.Says e) = ends_event e.fields (event_says e)
+
+abbrev pub holds_result : Option (List ℕ) → Bool
+holds_result (Some text) = ends_line (line.trace_line text)
+holds_result None = false
+
 -- A fault: it is told with its line and a reason, after the packet that it cuts, and counted. No packet is under way
--- after it, and lines that can't begin one are skipped.
-pub record Faulted (s : Transfers) (step : Step Transfers) : Type 0 where
+-- after it, and lines that can't begin one are skipped, unless it is a result itself.
+pub record Faulted (ends : Bool) (s : Transfers) (step : Step Transfers) : Type 0 where
   pub reason : Reason
   pub told : step.text ≡ cut_text s.recording.packet ++ at_line s.recording.line (reason_text reason)
   pub is_counted : 0 < step.now.recording.troubles
   pub is_gone : step.now.recording.packet ≡ None
-  pub skips : step.now.recording.is_skipping ≡ true
+  pub skips : step.now.recording.is_skipping ≡ not ends
 
--- A step does what a class says.
-abbrev pub DoesAs : LineClass → Transfers → Step Transfers → Type 0
-DoesAs GivesEvents s step = GivenText s step.text
-DoesAs SaysNothing s step = Unsaid s step
-DoesAs PassedOver s step = Passed s step
-DoesAs IsFault s step = Faulted s step
+-- A step does what a class says; `ends` tells a result.
+abbrev pub DoesAs : LineClass → Bool → Transfers → Step Transfers → Type 0
+DoesAs GivesEvents ends s step = GivenText s step.text
+DoesAs SaysNothing ends s step = Unsaid s step
+DoesAs PassedOver ends s step = Passed s step
+DoesAs IsFault ends s step = Faulted ends s step
 
 -- the transfers at the next line
 abbrev pub at_next_line : Transfers → Transfers
@@ -105,7 +121,12 @@ at_next_line s = record s { recording = next_line s.recording }
 abbrev pub class_of_line : Transfers → TextLine → LineClass
 class_of_line s given = class_of (at_next_line s) (content (s.recording.line == 0) given)
 
+-- whether it is a result
+abbrev pub is_result_line : Transfers → TextLine → Bool
+is_result_line s given = holds_result (content (s.recording.line == 0) given)
+
 -- Each line has one class, and what becomes of it is what its class says.
 abbrev pub EachLineHasItsClass : Type 0
 EachLineHasItsClass =
-    (s : Transfers) (given : TextLine) → DoesAs (class_of_line s given) (at_next_line s) (take_line s given)
+    (s : Transfers) (given : TextLine)
+    → DoesAs (class_of_line s given) (is_result_line s given) (at_next_line s) (take_line s given)

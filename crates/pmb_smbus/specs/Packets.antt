@@ -61,8 +61,11 @@ legs t = written_leg t ++ read_leg t
 abbrev pub byte_of : WireByte → ℕ
 byte_of b = b.byte
 
+abbrev pub has_code_byte : Head → Bool
+has_code_byte head = head.has_code && may_have_code head.protocol
+
 abbrev pub code_bytes : Head → List WireByte → List ℕ
-code_bytes head wire = if head.has_code && may_have_code head.protocol then pec (map byte_of wire) ∷ [] else []
+code_bytes head wire = if has_code_byte head then pec (map byte_of wire) ∷ [] else []
 
 abbrev pub with_code : Head → List WireByte → List WireByte
 with_code head wire = wire ++ acknowledged (code_bytes head wire)

@@ -1,11 +1,13 @@
 -- What becomes of a transfer, event by event, and what is told.
-use Rattle.std.specs.Prelude.{ℕ, ◌==◌, ◌&&◌, ◌||◌, true, false, not, Bool, Option, Some, None, if◌then◌else◌, List, []}
+use Rattle.std.specs.Prelude.{ℕ, ◌+◌, ◌==◌, ◌&&◌, ◌||◌, true, false, not, Bool, Option, Some, None, if◌then◌else◌, List, []}
+use Rattle.std.specs.Prelude.{◌++◌, codes, decimal}
+use Rattle.pmb_io.specs.Count.{capped}
 use Rattle.pmb_io.specs.Lines.{TextLine}
 use Rattle.pmb_recording.specs.Content.{content}
-use Rattle.pmb_recording.specs.Recording.{Step, at_begin, at_end, at_failure, at_fault, at_heading, at_hidden_bytes}
-use Rattle.pmb_recording.specs.Recording.{at_hidden_reply, at_loss, at_packet, following, fresh, given, is_followed}
+use Rattle.pmb_recording.specs.Recording.{Step, at_begin, at_end, at_failure, at_fault, at_fault_ending, at_heading}
+use Rattle.pmb_recording.specs.Recording.{at_hidden_bytes, at_hidden_reply, at_loss, at_packet, following, fresh, given, is_followed}
 use Rattle.pmb_recording.specs.Recording.{next_line, past_other_bus, past_other_kind, quietly, skipped}
-use Rattle.pmb_recording.specs.Told.{Reason, DoesNotFollow, MakesNoSense}
+use Rattle.pmb_recording.specs.Told.{Reason, DoesNotFollow, MakesNoSense, comment}
 use Rattle.pmb_recording.specs.Wire.{same}
 use Rattle.pmb_recording.specs.declared.passed.Kind.TheVariants.{I2c}
 use Rattle.pmb_recording.specs.declared.recording.Recording.{Recording}
@@ -17,7 +19,7 @@ use Rattle.pmb_trace.specs.declared.event_name.EventName.{EventName}
 use Rattle.pmb_trace.specs.declared.event_name.EventName.TheVariants.{SmbusWrite, SmbusRead, SmbusReply, SmbusResult}
 use Rattle.pmb_smbus.specs.Events.{Replies, Reads, Result, Says, Unreadable, Writes, bytes_shown, hides}
 use Rattle.pmb_smbus.specs.Events.{message_of, own_fault, read_of, result_of, with_front}
-use Rattle.pmb_smbus.specs.Packets.{has_read_leg, legs_wire, packet_wire}
+use Rattle.pmb_smbus.specs.Packets.{has_code_byte, has_read_leg, legs_wire, packet_wire}
 use Rattle.pmb_smbus.specs.Protocols.{is_call, is_protocol}
 use Rattle.pmb_smbus.specs.declared.events.Head.{Head}
 use Rattle.pmb_smbus.specs.declared.protocol.Protocol.TheVariants.{Quick}
@@ -44,7 +46,7 @@ none = begun (record { address = 0; command = 0; protocol = Quick; has_code = fa
 
 -- nothing came yet, and the bus of a name is followed, or that of the first line
 abbrev pub start : Option (List ℕ) → Transfers
-start bus = record { recording = fresh bus; transfer = none }
+start bus = record { recording = fresh bus; transfer = none; error_codes = 0 }
 
 -- ---- what becomes of the recording
 
@@ -53,6 +55,10 @@ on s step = record { now = record s { recording = step.now }; text = step.text }
 
 abbrev pub fault : Transfers → Reason → Step Transfers
 fault s reason = on s (at_fault s.recording reason)
+
+-- a result that is a fault: reading begins after it
+abbrev pub faulty_result : Transfers → Reason → Step Transfers
+faulty_result s reason = on s (at_fault_ending s.recording reason true)
 
 abbrev pub with_recording : Transfers → Recording → Step Transfers
 with_recording s recording = quietly (record s { recording = recording })
@@ -106,14 +112,20 @@ lacks_bytes t = t.is_hidden || t.is_reply_hidden
 abbrev pub lacks_reply : Transfer → Bool → Bool
 lacks_reply t writes = is_call t.head.protocol && writes
 
--- all of it is shown
+-- The kernel does not show an error code, and sets the flag 0004 on adapters without them too. So those that are
+-- written are counted.
+abbrev pub counted_code : Transfers → Transfers
+counted_code s =
+    if has_code_byte s.transfer.head then record s { error_codes = capped (s.error_codes + 1) } else s
+
+-- all else of it is shown
 abbrev pub whole : Transfers → Step Transfers
-whole s = on s (at_packet (with_wire s.recording (packet_wire s.transfer)))
+whole s = on (counted_code s) (at_packet (with_wire s.recording (packet_wire s.transfer)))
 
 -- A transfer that went through is a packet, where the recording shows all of it.
 abbrev pub went_through : Transfers → Bool → Step Transfers
 went_through s writes =
-    if not (has_its_reply s.transfer writes) then fault s DoesNotFollow else
+    if not (has_its_reply s.transfer writes) then faulty_result s DoesNotFollow else
     if lacks_bytes s.transfer then on s (at_hidden_bytes s.recording) else
     if lacks_reply s.transfer writes then on s (at_hidden_reply s.recording) else
     whole s
@@ -129,7 +141,7 @@ ends s writes outcome (Some value) = went_through s writes
 
 abbrev pub take_result : Transfers → Head → Bool → Outcome → Step Transfers
 take_result s head writes outcome =
-    if may_end s.transfer head writes then ends s writes outcome outcome.value else fault s DoesNotFollow
+    if may_end s.transfer head writes then ends s writes outcome outcome.value else faulty_result s DoesNotFollow
 
 -- What can't begin a packet is skipped after a fault or a loss, and is a fault itself where no packet is under way.
 abbrev pub stray : Transfers → Step Transfers
@@ -138,7 +150,7 @@ stray s = if s.recording.is_skipping then quietly s else fault s DoesNotFollow
 -- a result ends what is skipped
 abbrev pub stray_result : Transfers → Step Transfers
 stray_result s =
-    if s.recording.is_skipping then with_recording s (skipped s.recording) else fault s DoesNotFollow
+    if s.recording.is_skipping then with_recording s (skipped s.recording) else faulty_result s DoesNotFollow
 
 -- the first of two steps where a packet is under way, and else the second
 abbrev pub within : Option PacketLines → Step Transfers → Step Transfers → Step Transfers
@@ -154,12 +166,24 @@ follow_says s time (Result front writes outcome) =
     within s.recording.packet (take_result s front.head writes outcome) (stray_result s)
 follow_says s time Unreadable = fault s MakesNoSense
 
-abbrev pub unless_fault : Transfers → Option Reason → Step Transfers → Step Transfers
-unless_fault s (Some reason) step = fault s reason
-unless_fault s None step = step
+abbrev pub is_result : Says → Bool
+is_result (Writes m) = false
+is_result (Reads front) = false
+is_result (Replies m) = false
+is_result (Result front writes outcome) = true
+is_result Unreadable = false
+
+-- the fault that an event has by itself: nothing is skipped after a result
+abbrev pub own_step : Transfers → Bool → Reason → Step Transfers
+own_step s true reason = faulty_result s reason
+own_step s false reason = fault s reason
+
+abbrev pub unless_fault : Transfers → Bool → Option Reason → Step Transfers → Step Transfers
+unless_fault s ends (Some reason) step = own_step s ends reason
+unless_fault s ends None step = step
 
 abbrev pub follow : Transfers → List ℕ → Says → Step Transfers
-follow s time says = unless_fault s (own_fault says) (follow_says s time says)
+follow s time says = unless_fault s (is_result says) (own_fault says) (follow_says s time says)
 
 -- ---- lines
 
@@ -206,6 +230,15 @@ abbrev pub take_line : Transfers → TextLine → Step Transfers
 take_line s given =
     take_content (record s { recording = next_line s.recording }) (content (s.recording.line == 0) given)
 
+-- how many error codes were computed: nothing is told where there is none
+abbrev pub error_codes_line : ℕ → List ℕ
+error_codes_line count =
+    if count == 0 then [] else
+    comment (decimal count ++ codes " error codes are computed, since the recording shows none")
+
 -- the end of the recording
 abbrev pub take_end : Transfers → Step Transfers
-take_end s = on s (at_end s.recording (Some I2c))
+take_end s = record {
+  now = (on s (at_end s.recording (Some I2c))).now;
+  text = (at_end s.recording (Some I2c)).text ++ error_codes_line s.error_codes;
+}

@@ -2,7 +2,7 @@
 
 ghost use Rattle.std.specs.Prelude.{◌≡◌, ◌+◌, ◌≤◌, ◌<◌, ◌++◌, ◌∷◌, [], length, map};
 ghost use Rattle.pmb_bus.specs.Pec.{pec};
-ghost use Rattle.pmb_smbus.specs.Packets.{acknowledged, address_byte as address_of, byte_of, command_bytes, has_read_leg as reads_back, has_written_leg as writes_first};
+ghost use Rattle.pmb_smbus.specs.Packets.{acknowledged, address_byte as address_of, byte_of, command_bytes, has_code_byte, has_read_leg as reads_back, has_written_leg as writes_first};
 ghost use Rattle.pmb_smbus.specs.Packets.{legs_wire, on_wire as bytes_on_wire, packet_wire, read_leg, refused as refused_in, with_code, with_last_refused};
 ghost use Rattle.pmb_smbus.specs.Packets.{written_leg};
 ghost use Rattle.pmb_smbus.specs.Transfers.{begun, has_its_reply as reply_is_due, lacks_bytes as bytes_are_missing, lacks_reply as reply_is_missing, may_end as end_follows};
@@ -206,10 +206,17 @@ impl Transfer {
         ensures items { wire.new.items ≡ with_code self.now.head wire.old.items }
         ensures short { length wire.new.items ≤ length wire.old.items + 1 }
     {
-        if self.head.has_code && self.head.protocol.may_have_code() {
+        if self.has_code_byte() {
             let code = code_of(wire.as_slice());
             put_byte(wire, code);
         }
+    }
+
+    /// Whether the packet has a packet error code.
+    pub(crate) fn has_code_byte(&self) -> bool
+        ensures { result ≡ has_code_byte self.now.head }
+    {
+        self.head.has_code && self.head.protocol.may_have_code()
     }
 
     /// The byte that addresses the device.

@@ -18,7 +18,7 @@ ghost use Rattle.pmb_smbus.specs.Views.{IsShortEvent, said as said_with};
 use crate::events::{Says, read_event};
 use crate::transfer::Transfer;
 use pmb_io::laws::texts_add_up;
-use pmb_io::{InputLine, RunFault, Sink, Tally, Waiting};
+use pmb_io::{InputLine, RunFault, Sink, Tally, Waiting, put};
 use pmb_recording::{Fault, Kind, Recording, content};
 use pmb_trace::{Bytes, Event, EventKind, Loss, TraceLine, bus_field, event_time, trace_line};
 
@@ -29,6 +29,8 @@ pub struct Transfers {
     pub recording: Recording,
     /// The transfer under way.
     pub transfer: Transfer,
+    /// How many packet error codes were computed.
+    pub error_codes: u64,
 }
 
 impl Transfers {
@@ -39,6 +41,7 @@ impl Transfers {
         Transfers {
             recording: Recording::new(bus),
             transfer: Transfer::new(),
+            error_codes: 0,
         }
     }
 
@@ -262,7 +265,9 @@ impl Transfers {
         ensures puts { OnOk result (PutsText (W.told writer.old).held waiting.old.items (W.told writer.new).held waiting.new.items (steps.take_end self.old).text) }
         ensures failed { WriterTells (W.told writer.old) (W.told writer.new) result }
     {
-        self.recording.end(Some(Kind::I2c), waiting, writer)
+        texts_add_up();
+        self.recording.end(Some(Kind::I2c), waiting, writer)?;
+        put_error_codes(self.error_codes, waiting, writer)
     }
 
     /// Packets, and what tells that something is missing.
@@ -271,4 +276,27 @@ impl Transfers {
     {
         self.recording.tally()
     }
+}
+
+/// Puts out how many packet error codes were computed, where there are any.
+fn put_error_codes<W: Sink>(
+    count: u64,
+    waiting: &mut Waiting,
+    writer: &mut W,
+) -> Result<(), RunFault>
+    ensures puts { OnOk result (PutsText (W.told writer.old).held waiting.old.items (W.told writer.new).held waiting.new.items (steps.error_codes_line count)) }
+    ensures failed { WriterTells (W.told writer.old) (W.told writer.new) result }
+{
+    texts_add_up();
+    if count == 0 {
+        return Ok(());
+    }
+    put(waiting, b"# ", writer)?;
+    let mut buffer = itoa::Buffer::new();
+    put(waiting, buffer.format(count).as_bytes(), writer)?;
+    put(
+        waiting,
+        b" error codes are computed, since the recording shows none\n",
+        writer,
+    )
 }

@@ -10,7 +10,8 @@ use Rattle.pmb_facts.specs.Fact.{FactData}
 use Rattle.pmb_facts.specs.Packets.{packet_facts, refused_fact, write_facts}
 use Rattle.pmb_fact_stream.specs.Before.{Before}
 use Rattle.pmb_fact_stream.specs.Others.{is_told, other_address}
-use Rattle.pmb_fact_stream.specs.Spans.{event_place, event_time, lost, other_or, refused_span, span_facts}
+use Rattle.pmb_fact_stream.specs.Lost.{lost_in}
+use Rattle.pmb_fact_stream.specs.Spans.{event_place, event_time, other_or, refused_span, span_facts}
 use Rattle.pmb_fact_stream.specs.UnderWay.{open_time, time_of_some, under_way, up_to_stop}
 use Rattle.pmb_json.proofs.EachOf.{each_filtered, each_of_both}
 use Rattle.pmb_json.proofs.JsonSpans.{AllSayPackets, SaysPacket, spans_say_packets}
@@ -83,7 +84,8 @@ module _ (before : List PastData) (place : ℕ → Place) (time : Option (List �
 -- ---- spans
 
 module _ (ignored : Option (List ℕ)) (profile : List DeviceParts) where
-  module _ (place : ℕ → Place) (times : ℕ → Option (List ℕ)) (timed : (at : ℕ) → IsTime (times at)) where
+  module _ (place : ℕ → Place) (times : ℕ → Option (List ℕ)) (timed : (at : ℕ) → IsTime (times at))
+      (lost : ℕ → List Event → List PastData) where
     -- an other, or these facts
     either_of_bytes : (n : ℕ) (addr : Option ℕ) (facts : List FactData) → AreOfBytes facts
         → AreOfBytes (other_or place times n addr facts)
@@ -95,26 +97,26 @@ module _ (ignored : Option (List ℕ)) (profile : List DeviceParts) where
     refusal_of_bytes before n front event refusal = (record { time = timed n; data_bytes = tt }, tt)
 
     spans_of_bytes : (before : List PastData) (spans : List Span) → AllSayPackets profile spans
-        → AreOfBytes (span_facts ignored place times before spans)
+        → AreOfBytes (span_facts ignored place times lost before spans)
     spans_of_bytes before [] say = tt
     spans_of_bytes before (ReadSpan n events t ∷ spans) say =
         let own = packet_facts before place (times n) n events t in
         let addr = other_address ignored events in
         each_of_both IsOfBytes (other_or place times n addr own)
-        (span_facts ignored place times (before ++ Said t ∷ []) spans)
+        (span_facts ignored place times lost (before ++ Said t ∷ []) spans)
         (either_of_bytes n addr own (packet_of_bytes before place (times n) (timed n) profile n events t say.0))
         (spans_of_bytes (before ++ Said t ∷ []) spans say.1)
     spans_of_bytes before (RefusedSpan n front event refusal ∷ spans) say =
         let own = refused_span place times before n front (Some event) refusal ∷ [] in
         let addr = other_address ignored (front ++ event ∷ []) in
         each_of_both IsOfBytes (other_or place times n addr own)
-        (span_facts ignored place times (before ++ lost front event refusal.reason) spans)
+        (span_facts ignored place times lost (before ++ lost n front) spans)
         (either_of_bytes n addr own (refusal_of_bytes before n front (Some event) refusal))
-        (spans_of_bytes (before ++ lost front event refusal.reason) spans say.1)
+        (spans_of_bytes (before ++ lost n front) spans say.1)
     spans_of_bytes before (TruncatedSpan n front refusal ∷ spans) say =
         let own = refused_span place times before n front None refusal ∷ [] in
         let addr = other_address ignored front in
-        each_of_both IsOfBytes (other_or place times n addr own) (span_facts ignored place times before spans)
+        each_of_both IsOfBytes (other_or place times n addr own) (span_facts ignored place times lost before spans)
         (either_of_bytes n addr own (refusal_of_bytes before n front None refusal))
         (spans_of_bytes before spans say.1)
 
@@ -130,21 +132,22 @@ module _ (ignored : Option (List ℕ)) (profile : List DeviceParts) where
         (time_fits (time_at text (up_to_stop events)) (short text (up_to_stop events)))
 
     line_of_bytes : (b : Before) (bad : BadLine) → IsBadLine ignored profile b bad
-        → AreOfBytes (bad_line_facts ignored b bad)
+        → AreOfBytes (bad_line_facts ignored profile b bad)
     line_of_bytes b bad is =
         let text = bad.front ++ bad.line in
         let say : AllSayPackets profile bad.spans = subst (AllSayPackets profile) (sym is.reported)
         (each_filtered (SaysPacket profile) (is_told ignored) is.all
         (spans_say_packets profile b.n bad.events is.all is.reads)) in
-        each_of_both IsOfBytes (front_facts ignored b bad) (word_fact b bad ∷ [])
-        (spans_of_bytes (event_place b.read b.n text) (event_time b.n text) (event_times b.n text) b.past bad.spans say)
+        each_of_both IsOfBytes (front_facts ignored profile b bad) (word_fact b bad ∷ [])
+        (spans_of_bytes (event_place b.read b.n text) (event_time b.n text) (event_times b.n text)
+        (lost_in profile b.n bad.events) b.past bad.spans say)
         (record { time = open_times bad.front bad.events; data_bytes = tt }, tt)
 
     others_of_bytes : (b : Before) (bad : BadLine) (facts others : List FactData) → IsBadLine ignored profile b bad
-        → facts ≡ bad_line_facts ignored b bad ++ others → AreOfBytes others → AreOfBytes facts
+        → facts ≡ bad_line_facts ignored profile b bad ++ others → AreOfBytes others → AreOfBytes facts
     others_of_bytes b bad facts others is all rest =
         subst AreOfBytes (sym all)
-        (each_of_both IsOfBytes (bad_line_facts ignored b bad) others (line_of_bytes b bad is) rest)
+        (each_of_both IsOfBytes (bad_line_facts ignored profile b bad) others (line_of_bytes b bad is) rest)
 
     -- the facts of bytes from anywhere on
     pub facts_of_bytes : (after : AfterBadToken) (b : Before) (bytes : List ℕ) (bad : List BadLine)
@@ -152,7 +155,8 @@ module _ (ignored : Option (List ℕ)) (profile : List DeviceParts) where
         → AreOfBytes facts
     facts_of_bytes after b bytes [] facts counts end =
         subst AreOfBytes (sym end.all)
-        (spans_of_bytes (event_place b.read b.n bytes) (event_time b.n bytes) (event_times b.n bytes) b.past end.spans
+        (spans_of_bytes (event_place b.read b.n bytes) (event_time b.n bytes) (event_times b.n bytes)
+        (lost_in profile b.n end.events) b.past end.spans
         (spans_say_packets profile b.n end.events end.spans end.reads))
     facts_of_bytes End b bytes (bad ∷ more) facts counts (rest, others, split, behind, is, all, on) =
         others_of_bytes b bad facts others is all (subst AreOfBytes (sym on.1) tt)
@@ -160,4 +164,4 @@ module _ (ignored : Option (List ℕ)) (profile : List DeviceParts) where
         others_of_bytes b bad facts others is all (subst AreOfBytes (sym on.1) tt)
     facts_of_bytes Continue b bytes (bad ∷ more) facts counts (lf ∷ rest, others, split, behind, is, all, on) =
         others_of_bytes b bad facts others is all
-        (facts_of_bytes Continue (behind_line ignored b bad) rest more others counts on)
+        (facts_of_bytes Continue (behind_line ignored profile b bad) rest more others counts on)

@@ -11,8 +11,9 @@ use Rattle.pmb_facts.specs.Fact.{FactData}
 use Rattle.pmb_facts.specs.Packets.{packet_facts}
 use Rattle.pmb_fact_stream.specs.Before.{Before}
 use Rattle.pmb_fact_stream.specs.Others.{other_address}
+use Rattle.pmb_fact_stream.specs.Lost.{lost_in}
 use Rattle.pmb_fact_stream.specs.Spans.{bad_token_fact, event_place, event_time, other_fact, other_or, refusal_fact}
-use Rattle.pmb_fact_stream.specs.Spans.{lost, refused_span, span_facts}
+use Rattle.pmb_fact_stream.specs.Spans.{refused_span, span_facts}
 use Rattle.pmb_json.proofs.EachOf.{each_of_both}
 use Rattle.pmb_json_objects.specs.Counts.{CountsData}
 use Rattle.pmb_json_objects.specs.Head.{Head, head_at}
@@ -44,7 +45,7 @@ module _ (P : FactData → Type 0) (ignored : Option (List ℕ)) (profile : List
     (holds : HoldsOfEach P ignored profile) where
   -- ---- spans
 
-  module _ (place : ℕ → Place) (times : ℕ → Option (List ℕ)) where
+  module _ (place : ℕ → Place) (times : ℕ → Option (List ℕ)) (lost : ℕ → List Event → List PastData) where
     -- an other, or these facts
     either_holds : (n : ℕ) (other : Option ℕ) (own : List FactData)
         → ((addr : ℕ) → other ≡ Some addr → P (other_fact (head_at place (times n) (n + 1)) addr))
@@ -68,39 +69,39 @@ module _ (P : FactData → Type 0) (ignored : Option (List ℕ)) (profile : List
     )
 
     pub spans_hold : (before : List PastData) (spans : List Span) → AreSpelled profile spans
-        → AllByRecursion P (span_facts ignored place times before spans)
+        → AllByRecursion P (span_facts ignored place times lost before spans)
     spans_hold before [] spelled = tt
     spans_hold before (ReadSpan n events t ∷ spans) spelled =
         let own = packet_facts before place (times n) n events t in
         each_of_both P (other_or place times n (other_address ignored events) own)
-        (span_facts ignored place times (before ++ Said t ∷ []) spans)
+        (span_facts ignored place times lost (before ++ Said t ∷ []) spans)
         (span_holds n events own spelled.0.1 (holds.packet before place (times n) n events t spelled.0.0))
         (spans_hold (before ++ Said t ∷ []) spans spelled.1)
     spans_hold before (RefusedSpan n front event refusal ∷ spans) spelled =
         let all = front ++ event ∷ [] in
         let own = refused_span place times before n front (Some event) refusal ∷ [] in
         each_of_both P (other_or place times n (other_address ignored all) own)
-        (span_facts ignored place times (before ++ lost front event refusal.reason) spans)
+        (span_facts ignored place times lost (before ++ lost n front) spans)
         (span_holds n all own spelled.0.1
         (refused_holds before n front (Some event) refusal (bytes_of_first front (event ∷ []) spelled.0.1)))
-        (spans_hold (before ++ lost front event refusal.reason) spans spelled.1)
+        (spans_hold (before ++ lost n front) spans spelled.1)
     spans_hold before (TruncatedSpan n front refusal ∷ spans) spelled =
         let own = refused_span place times before n front None refusal ∷ [] in
         each_of_both P (other_or place times n (other_address ignored front) own)
-        (span_facts ignored place times before spans)
+        (span_facts ignored place times lost before spans)
         (span_holds n front own spelled.0.1 (refused_holds before n front None refusal spelled.0.1))
         (spans_hold before spans spelled.1)
 
   -- ---- texts
 
   line_holds : (b : Before) (bad : BadLine) (facts others : List FactData) → IsBadLine ignored profile b bad
-      → facts ≡ bad_line_facts ignored b bad ++ others → AllByRecursion P others → AllByRecursion P facts
+      → facts ≡ bad_line_facts ignored profile b bad ++ others → AllByRecursion P others → AllByRecursion P facts
   line_holds b bad facts others is all rest =
       let place = event_place b.read b.n (bad.front ++ bad.line) in
       let times = event_time b.n (bad.front ++ bad.line) in
-      subst (AllByRecursion P) (sym all) (each_of_both P (bad_line_facts ignored b bad) others
-      (each_of_both P (front_facts ignored b bad) (word_fact b bad ∷ [])
-      (spans_hold place times b.past bad.spans (line_is_spelled ignored profile b bad is))
+      subst (AllByRecursion P) (sym all) (each_of_both P (bad_line_facts ignored profile b bad) others
+      (each_of_both P (front_facts ignored profile b bad) (word_fact b bad ∷ [])
+      (spans_hold place times (lost_in profile b.n bad.events) b.past bad.spans (line_is_spelled ignored profile b bad is))
       (holds.bad_token (word_head b bad) (front_word bad.line), tt)) rest)
 
   -- the facts of bytes from anywhere on
@@ -109,11 +110,11 @@ module _ (P : FactData → Type 0) (ignored : Option (List ℕ)) (profile : List
       → AllByRecursion P facts
   text_holds after b bytes [] facts counts end =
       subst (AllByRecursion P) (sym end.all)
-      (spans_hold (event_place b.read b.n bytes) (event_time b.n bytes) b.past end.spans
+      (spans_hold (event_place b.read b.n bytes) (event_time b.n bytes) (lost_in profile b.n end.events) b.past end.spans
       (end_is_spelled ignored profile b bytes facts counts end))
   text_holds End b bytes (bad ∷ more) facts counts (rest, others, split, behind, is, all, on) =
       line_holds b bad facts others is all (subst (AllByRecursion P) (sym on.1) tt)
   text_holds Continue b bytes (bad ∷ more) facts counts ([], others, split, behind, is, all, on) =
       line_holds b bad facts others is all (subst (AllByRecursion P) (sym on.1) tt)
   text_holds Continue b bytes (bad ∷ more) facts counts (lf ∷ rest, others, split, behind, is, all, on) =
-      line_holds b bad facts others is all (text_holds Continue (behind_line ignored b bad) rest more others counts on)
+      line_holds b bad facts others is all (text_holds Continue (behind_line ignored profile b bad) rest more others counts on)

@@ -12,8 +12,9 @@ use Rattle.pmb_facts.specs.Fact as fact
 use Rattle.pmb_facts.specs.Packets.{fact_at, packet_facts, refused_fact, write_facts}
 use Rattle.pmb_fact_stream.specs.Before.{Before}
 use Rattle.pmb_fact_stream.specs.Others.{other_address}
+use Rattle.pmb_fact_stream.specs.Lost.{lost_in}
 use Rattle.pmb_fact_stream.specs.Spans.{after_either, after_reported, after_span, after_spans, event_place, event_time}
-use Rattle.pmb_fact_stream.specs.Spans.{lost, other_fact, other_or, refused_span, span_facts}
+use Rattle.pmb_fact_stream.specs.Spans.{other_fact, other_or, refused_span, span_facts}
 use Rattle.pmb_json_objects.specs.Counts.{CountsData, after_bad_token, after_other, after_packet, after_refusal}
 use Rattle.pmb_json_objects.specs.Head.{head_at}
 use Rattle.pmb_json_objects.specs.Packets.{starts}
@@ -189,7 +190,7 @@ pub record Agrees (count : CountsData → ℕ) (weight : WhatData → ℕ) : Typ
 
 module _ (count : CountsData → ℕ) (weight : WhatData → ℕ) (agrees : Agrees count weight) (ignored : Option (List ℕ))
     (profile : List DeviceParts) where
-  module _ (place : ℕ → Place) (times : ℕ → Option (List ℕ)) where
+  module _ (place : ℕ → Place) (times : ℕ → Option (List ℕ)) (lost : ℕ → List Event → List PastData) where
     either_agrees : (c : CountsData) (n : ℕ) (other : Option ℕ) (span : Span) (own : List FactData)
         → count (after_reported c span) ≡ count c + weigh weight own
         → count (after_either c other span) ≡ count c + weigh weight (other_or place times n other own)
@@ -206,14 +207,14 @@ module _ (count : CountsData → ℕ) (weight : WhatData → ℕ) (agrees : Agre
     span_more c d e own more first rest = omega (arith, first, rest, weigh_both weight own more)
 
     pub spans_agree : (c : CountsData) (before : List PastData) (spans : List Span) → AreSpelled profile spans
-        → count (after_spans ignored c spans) ≡ count c + weigh weight (span_facts ignored place times before spans)
+        → count (after_spans ignored c spans) ≡ count c + weigh weight (span_facts ignored place times lost before spans)
     spans_agree c before [] spelled = omega arith
     spans_agree c before (ReadSpan n events t ∷ spans) spelled =
         let span = ReadSpan n events t in
         let other = other_address ignored events in
         let own = packet_facts before place (times n) n events t in
         span_more (count c) (count (after_span ignored c span)) (count (after_spans ignored c (span ∷ spans)))
-        (other_or place times n other own) (span_facts ignored place times (before ++ Said t ∷ []) spans)
+        (other_or place times n other own) (span_facts ignored place times lost (before ++ Said t ∷ []) spans)
         (either_agrees c n other span own (omega (
           arith,
           agrees.packet c t (packets_have_parts profile t events spelled.0.0),
@@ -225,19 +226,19 @@ module _ (count : CountsData → ℕ) (weight : WhatData → ℕ) (agrees : Agre
         let other = other_address ignored (front ++ event ∷ []) in
         let own = refused_span place times before n front (Some event) refusal in
         span_more (count c) (count (after_span ignored c span)) (count (after_spans ignored c (span ∷ spans)))
-        (other_or place times n other (own ∷ [])) (span_facts ignored place times (before ++ lost front event refusal.reason) spans)
+        (other_or place times n other (own ∷ [])) (span_facts ignored place times lost (before ++ lost n front) spans)
         (either_agrees c n other span (own ∷ []) (omega (
           arith,
           agrees.refusal c front (Some event) refusal.reason refusal.expected,
           weigh_one weight own,
         )))
-        (spans_agree (after_span ignored c span) (before ++ lost front event refusal.reason) spans spelled.1)
+        (spans_agree (after_span ignored c span) (before ++ lost n front) spans spelled.1)
     spans_agree c before (TruncatedSpan n front refusal ∷ spans) spelled =
         let span = TruncatedSpan n front refusal in
         let other = other_address ignored front in
         let own = refused_span place times before n front None refusal in
         span_more (count c) (count (after_span ignored c span)) (count (after_spans ignored c (span ∷ spans)))
-        (other_or place times n other (own ∷ [])) (span_facts ignored place times before spans)
+        (other_or place times n other (own ∷ [])) (span_facts ignored place times lost before spans)
         (either_agrees c n other span (own ∷ []) (omega (
           arith,
           agrees.refusal c front None refusal.reason refusal.expected,
@@ -248,8 +249,8 @@ module _ (count : CountsData → ℕ) (weight : WhatData → ℕ) (agrees : Agre
   -- ---- texts
 
   line_agrees : (b : Before) (bad : BadLine) (facts others : List FactData) (end : ℕ) → IsBadLine ignored profile b bad
-      → facts ≡ bad_line_facts ignored b bad ++ others
-      → end ≡ count (behind_line ignored b bad).counts + weigh weight others
+      → facts ≡ bad_line_facts ignored profile b bad ++ others
+      → end ≡ count (behind_line ignored profile b bad).counts + weigh weight others
       → end ≡ count b.counts + weigh weight facts
   line_agrees b bad facts others end is all rest =
       let place = event_place b.read b.n (bad.front ++ bad.line) in
@@ -259,10 +260,10 @@ module _ (count : CountsData → ℕ) (weight : WhatData → ℕ) (agrees : Agre
         arith,
         rest,
         ap (weigh weight) all,
-        weigh_both weight (bad_line_facts ignored b bad) others,
-        weigh_both weight (front_facts ignored b bad) (word ∷ []),
+        weigh_both weight (bad_line_facts ignored profile b bad) others,
+        weigh_both weight (front_facts ignored profile b bad) (word ∷ []),
         weigh_one weight word,
-        spans_agree place times b.counts b.past bad.spans (line_is_spelled ignored profile b bad is),
+        spans_agree place times (lost_in profile b.n bad.events) b.counts b.past bad.spans (line_is_spelled ignored profile b bad is),
         agrees.bad_token (after_spans ignored b.counts bad.spans) (take 32 (front_word bad.line)),
       )
 
@@ -277,15 +278,16 @@ module _ (count : CountsData → ℕ) (weight : WhatData → ℕ) (agrees : Agre
       → count counts ≡ count b.counts + weigh weight facts
   text_agrees after b bytes [] facts counts end =
       ap count end.behind
-      ∙ (spans_agree (event_place b.read b.n bytes) (event_time b.n bytes) b.counts b.past end.spans
+      ∙ (spans_agree (event_place b.read b.n bytes) (event_time b.n bytes) (lost_in profile b.n end.events) b.counts
+      b.past end.spans
       (end_is_spelled ignored profile b bytes facts counts end)
       ∙ sym (ap (λ fs. count b.counts + weigh weight fs) end.all))
   text_agrees End b bytes (bad ∷ more) facts counts (rest, others, split, behind, is, all, on) =
       line_agrees b bad facts others (count counts) is all
-      (none_behind (count counts) (count (behind_line ignored b bad).counts) others on.1 (ap count on.2))
+      (none_behind (count counts) (count (behind_line ignored profile b bad).counts) others on.1 (ap count on.2))
   text_agrees Continue b bytes (bad ∷ more) facts counts ([], others, split, behind, is, all, on) =
       line_agrees b bad facts others (count counts) is all
-      (none_behind (count counts) (count (behind_line ignored b bad).counts) others on.1 (ap count on.2))
+      (none_behind (count counts) (count (behind_line ignored profile b bad).counts) others on.1 (ap count on.2))
   text_agrees Continue b bytes (bad ∷ more) facts counts (lf ∷ rest, others, split, behind, is, all, on) =
       line_agrees b bad facts others (count counts) is all
-      (text_agrees Continue (behind_line ignored b bad) rest more others counts on)
+      (text_agrees Continue (behind_line ignored profile b bad) rest more others counts on)

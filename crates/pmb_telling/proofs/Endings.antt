@@ -14,6 +14,7 @@ use Rattle.pmb_io.specs.Lines.{HasNoLf}
 use Rattle.pmb_io.specs.Tally.{IsTallyOf}
 use Rattle.pmb_io.specs.declared.tally.Tally.{Tally}
 use Rattle.pmb_scan.specs.declared.after_bad_token.AfterBadToken.{AfterBadToken}
+use Rattle.pmb_unknown_start.specs.Past.{PastData}
 use Rattle.pmb_telling.specs.declared.engine.EngineState.{EngineState}
 use Rattle.pmb_telling.specs.declared.engine.EngineState.TheVariants.{BadLine as InLine, BadWord, Words}
 use Rattle.pmb_telling.specs.declared.engine.Teller.{Teller}
@@ -32,6 +33,7 @@ use Rattle.pmb_telling.proofs.Reading.{MovesSpans, ends_told, reads_on, told_by,
 use Rattle.pmb_telling.proofs.Words.{solid_no_lf}
 use Rattle.pmb_json_objects.specs.Counts.{CountsData}
 use Rattle.pmb_facts.specs.Fact.{FactData}
+use Rattle.pmb_fact_stream.specs.Lost.{lost_in}
 use Rattle.pmb_fact_stream.specs.Lines.{fact_lines, last_lines}
 use Rattle.pmb_scan.specs.declared.scan.Scan.{Scan}
 use Rattle.pmb_scan.specs.Reached.{EndsWith, Reached}
@@ -110,16 +112,16 @@ module _ {K : Type 0} (Keeps : K → Setting → List FactData → Type 0) (choi
       (behind : Behind Keeps choice profile after first Holds bytes text)
       (bad : BadLine) (out left : List FactData)
       → behind.used ≡ bad.front ++ bad.line → IsBadLine choice.ignored profile behind.b bad
-      → out ++ left ≡ bad_line_facts choice.ignored behind.b bad
+      → out ++ left ≡ bad_line_facts choice.ignored profile behind.b bad
       → behind.put ≡ fact_lines choice profile out → WritesMore
   ends_bad Holds behind bad out left used_are is_bad both put_are =
-      let counts = (behind_line choice.ignored behind.b bad).counts in
+      let counts = (behind_line choice.ignored profile behind.b bad).counts in
       let lines = fact_lines choice profile in
       let last = last_lines choice profile counts in
       let said = lines left ++ last in
       let bytes_are : behind.used ++ [] ≡ bad.front ++ (bad.line ++ []) =
       append-nil behind.used ∙ (used_are ∙ ap (λ (l : List ℕ). bad.front ++ l) (sym (append-nil bad.line))) in
-      let lines_are : behind.put ++ said ≡ lines (bad_line_facts choice.ignored behind.b bad) ++ last =
+      let lines_are : behind.put ++ said ≡ lines (bad_line_facts choice.ignored profile behind.b bad) ++ last =
       ap (λ (l : List ℕ). l ++ said) put_are
       ∙ (sym (append_assoc (lines out) (lines left) last)
       ∙ ap (λ (l : List ℕ). l ++ last) (sym (lines_append choice profile out left) ∙ ap lines both)) in (
@@ -133,13 +135,22 @@ module _ {K : Type 0} (Keeps : K → Setting → List FactData → Type 0) (choi
   module _ (scan : Scan) (now : KeptStream K)
       (behind : Behind Keeps choice profile after first (InWords Keeps choice profile scan now) bytes text)
       (move : MovesSpans) where
+    -- what is lost at refusals, and went before, where these events follow
+    abbrev lost_after : List Event → ℕ → List Event → List PastData
+    lost_after later = lost_in behind.holds.reached.profile behind.b.n (behind.holds.reached.events ++ later)
+
+    abbrev past_after : List Event → List PastData
+    past_after later = past_in (lost_after later) (moved_spans behind.b.n behind.holds.reached.spans)
+
     -- They spell events, of which some were not told: these spans are theirs, and these facts are left.
-    ends_read : (events : List Event) (others : List Span) → Spells behind.holds.reached.text events
-        → Spans behind.holds.reached.profile events (behind.holds.reached.spans ++ others)
+    ends_read : (later : List Event) (others : List Span)
+        → Spells behind.holds.reached.text (behind.holds.reached.events ++ later)
+        → Spans behind.holds.reached.profile (behind.holds.reached.events ++ later)
+        (behind.holds.reached.spans ++ others)
         → (left : List FactData) × (text_facts choice.ignored behind.b behind.holds.reached.text
-        (behind.b.past ++ past_in behind.holds.reached.spans) (moved_spans behind.b.n others)
+        (lost_after later) (behind.b.past ++ past_after later) (moved_spans behind.b.n others)
         ≡ facts_out choice.ignored behind.b behind.holds.reached behind.holds.reached.text ++ left) → WritesMore
-    ends_read events others spells spans left =
+    ends_read later others spells spans left =
         let b = behind.b in
         let words = behind.holds in
         let there = words.reached in
@@ -148,12 +159,13 @@ module _ {K : Type 0} (Keeps : K → Setting → List FactData → Type 0) (choi
         now told in
         let counts = after_spans choice.ignored b.counts (there.spans ++ others) in
         let said = fact_lines choice profile left.0 ++ last_lines choice profile counts in
-        let reads = reads_on Keeps choice profile behind.keeper b scan now behind.used behind.put words there events
-        others left.0 behind.put said words.is_text
+        let reads = reads_on Keeps choice profile behind.keeper b scan now behind.used behind.put words there later
+        others left.0 behind.put said words.is_text same
         (told_by Keeps choice profile behind.keeper b scan now behind.used behind.put words there behind.put now told
-        []).lines
-        (subst (λ (l : List ℕ). Spells l events) words.is_text spells)
-        (read_from choice profile b there.profile events (there.spans ++ others) move same spans) left.1 refl in (
+        [] later).lines
+        (subst (λ (l : List ℕ). Spells l (there.events ++ later)) words.is_text spells)
+        (read_from choice profile b there.profile (there.events ++ later) (there.spans ++ others) move same spans)
+        left.1 refl in (
           said,
           tally_of counts,
           (ends_told Keeps choice profile after first _ (λ facts. Unit {0}) bytes text said counts (tally_of counts)
@@ -181,7 +193,7 @@ module _ {K : Type 0} (Keeps : K → Setting → List FactData → Type 0) (choi
         } in
         let cut = split_line first.rest in
         -- its front is out, and the word's fact is left
-        ends_bad _ behind bad (front_facts choice.ignored b bad) (word_fact b bad ∷ [])
+        ends_bad _ behind bad (front_facts choice.ignored profile b bad) (word_fact b bad ∷ [])
         (sym words.is_text ∙ first.split)
         (record {
           word = record {
@@ -203,12 +215,19 @@ module _ {K : Type 0} (Keeps : K → Setting → List FactData → Type 0) (choi
         })
         refl
         ((told_by Keeps choice profile behind.keeper b scan now behind.used behind.put words there behind.put now told
-        []).lines
-        ∙ (ap (fact_lines choice profile) (facts_told choice.ignored b there (there.text ++ []) last tells)
+        [] []).lines
+        ∙ (ap (fact_lines choice profile) (facts_told choice.ignored b there (there.text ++ []) (lost_after []) last
+        tells)
         ∙ ap (λ (l : List ℕ). fact_lines choice profile
-        (text_facts choice.ignored b l b.past
+        (text_facts choice.ignored b l (lost_after []) b.past
         (moved_spans b.n (there.spans ++ filter (is_told choice.ignored) last))))
-        (append-nil there.text ∙ first.split)))
+        (append-nil there.text ∙ first.split)
+        ∙ ap (λ (es : List Event). fact_lines choice profile
+        (text_facts choice.ignored b (first.front ++ first.rest) (lost_in there.profile b.n es) b.past
+        (moved_spans b.n (there.spans ++ filter (is_told choice.ignored) last)))) (append-nil there.events)
+        ∙ ap (λ (p : List DeviceParts). fact_lines choice profile
+        (text_facts choice.ignored b (first.front ++ first.rest) (lost_in p b.n there.events) b.past
+        (moved_spans b.n (there.spans ++ filter (is_told choice.ignored) last)))) same))
 
     -- The bytes end in words that may be tokens.
     ends_in_words : SpellsNoBadWord → (last : List Span) → EndsWith behind.holds.reached last
@@ -218,18 +237,21 @@ module _ {K : Type 0} (Keeps : K → Setting → List FactData → Type 0) (choi
     ends_in_words spells_none last end tells follows (inl spells) =
         let b = behind.b in
         let there = behind.holds.reached in
-        let past = b.past ++ past_in there.spans in
-        ends_read there.events last spells end.spans (
-          text_facts choice.ignored b there.text past (moved_spans b.n (filter (is_untold choice.ignored) last)),
-          sym (tells.rest (event_place b.read b.n there.text) (event_time b.n there.text) past b.n),
+        let past = b.past ++ past_after [] in
+        let events : there.events ≡ there.events ++ [] = sym (append-nil there.events) in
+        ends_read [] last (subst (λ (es : List Event). Spells there.text es) events spells)
+        (subst (λ (es : List Event). Spans there.profile es (there.spans ++ last)) events end.spans) (
+          text_facts choice.ignored b there.text (lost_after []) past
+              (moved_spans b.n (filter (is_untold choice.ignored) last)),
+          sym (tells.rest (event_place b.read b.n there.text) (event_time b.n there.text) (lost_after []) past b.n),
         )
     ends_in_words spells_none last end tells follows (inr (inl one)) =
         let b = behind.b in
         let there = behind.holds.reached in
         let more = follows (one.0 ∷ []) in
-        ends_read (there.events ++ one.0 ∷ []) more.others one.1 more.spans
-        (more.left (event_place b.read b.n there.text) (event_time b.n there.text)
-        (b.past ++ past_in there.spans) b.n)
+        ends_read (one.0 ∷ []) more.others one.1 more.spans
+        (more.left (event_place b.read b.n there.text) (event_time b.n there.text) (lost_after (one.0 ∷ []))
+        (b.past ++ past_after (one.0 ∷ [])) b.n)
     ends_in_words spells_none last end tells follows (inr (inr bad)) =
         ends_in_word spells_none last bad.0 end tells bad.1
 
@@ -264,7 +286,7 @@ ends_in Keeps BadWord start now bytes text move spells_none last_word ends follo
     let has = behind.holds.word in
     let bad = longer_line has.bad [] in
     ends_bad Keeps choice profile (teller_bad_words start) start.kept.keeper bytes text _ behind bad
-    (front_facts choice.ignored behind.b bad)
+    (front_facts choice.ignored profile behind.b bad)
     (word_fact behind.b bad ∷ [])
     (has.is_text ∙ ap (λ (l : List ℕ). has.bad.front ++ l) (sym (append-nil has.bad.line)))
     (bad_line_now choice profile behind.b has.bad has.so_far (solid_no_lf has.bad.line has.under_way)) refl
@@ -277,7 +299,7 @@ ends_in Keeps InLine start now bytes text move spells_none last_word ends follow
     let has = behind.holds in
     let bad = longer_line has.bad [] in
     ends_bad Keeps choice profile (teller_bad_words start) start.kept.keeper bytes text _ behind bad
-    (bad_line_facts choice.ignored behind.b bad) []
+    (bad_line_facts choice.ignored profile behind.b bad) []
     (has.is_text ∙ ap (λ (l : List ℕ). has.bad.front ++ l) (sym (append-nil has.bad.line)))
     (bad_line_now choice profile behind.b has.bad has.so_far has.in_line)
-    (append-nil (bad_line_facts choice.ignored behind.b bad)) (has.told [] [] [] refl tt).lines
+    (append-nil (bad_line_facts choice.ignored profile behind.b bad)) (has.told [] [] [] refl tt).lines

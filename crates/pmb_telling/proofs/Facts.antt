@@ -1,12 +1,11 @@
--- The facts and counts of lists of spans: one list after another, and spans that are moved by a
+-- The counts of lists of spans: one list after another, and spans that are moved by a
 -- number of events. For the law `moved_spans_count_the_same`, all files here that join lists, and
 -- the pieces of `pmb_json`. Moving a span changes where its events are counted, and neither its
 -- transaction, nor what is lost at it, nor whether it is told.
-use Rattle.std.proofs.Common.{◌≡◌, ◌||◌, ℕ, Bool, true, false, cond, Option, Some, None, List, [], ◌∷◌, ◌++◌, filter}
+use Rattle.std.proofs.Common.{◌≡◌, ◌||◌, ℕ, Bool, true, false, cond, Option, None, Some, List, [], ◌∷◌, ◌++◌, filter}
 use Rattle.std.proofs.Common.{flat_map}
-use Rattle.std.proofs.Common.{refl, sym}
+use Rattle.std.proofs.Common.{refl}
 use Rattle.std.proofs.Common.{ap, ◌∙◌}
-use Rattle.std.proofs.Common.{append_assoc, append-nil}
 use Rattle.std.proofs.lemmas.Grind.{flat_map-append}
 use Rattle.std.specs.List.{All}
 use Rattle.std.proofs.lemmas.List.Elements.{All-head, All-tail, filter-append}
@@ -16,14 +15,13 @@ use Rattle.pmb_command.specs.Parts.{DeviceParts}
 use Rattle.pmb_json_objects.specs.Counts.{CountsData}
 use Rattle.pmb_facts.specs.Fact.{FactData}
 use Rattle.pmb_fact_stream.specs.Lines.{fact_line, fact_lines, is_wanted_fact}
-use Rattle.pmb_facts.specs.Packets.{packet_facts}
-use Rattle.pmb_places.specs.declared.places.Place.{Place}
 use Rattle.pmb_spans.specs.Spans.{Span, ReadSpan, RefusedSpan, TruncatedSpan, is_whole, moved_span, moved_spans}
 use Rattle.pmb_fact_stream.specs.Choice.{ChoiceData}
 use Rattle.pmb_fact_stream.specs.Others.{is_other, is_told, other_address, span_events}
-use Rattle.pmb_fact_stream.specs.Spans.{after_either, after_reported, after_span, after_spans, other_or, refused_span}
-use Rattle.pmb_fact_stream.specs.Spans.{lost, past_in, span_facts}
-use Rattle.pmb_unknown_start.specs.Past.{PastData, Said}
+use Rattle.pmb_fact_stream.specs.Spans.{after_either, after_reported, after_span, after_spans}
+use Rattle.pmb_fact_stream.specs.Spans.{past_in}
+use Rattle.pmb_fact_stream.proofs.Losing.{past_both}
+use Rattle.pmb_unknown_start.specs.Past.{PastData}
 
 -- ---- lines
 
@@ -36,22 +34,6 @@ module _ (choice : ChoiceData) (profile : List DeviceParts) where
       (filter (is_wanted_fact choice profile) b)
 
 -- ---- spans moved
-
-pub past_moved : (n : ℕ) (spans : List Span) → past_in (moved_spans n spans) ≡ past_in spans
-past_moved n [] = refl
-past_moved n (ReadSpan m events t ∷ spans) = ap (λ (past : List PastData). Said t ∷ past)
-    (past_moved n spans)
-past_moved n (RefusedSpan m front event refusal ∷ spans) = ap (λ (past : List PastData). lost front event refusal.reason ++ past)
-    (past_moved n spans)
-past_moved n (TruncatedSpan m front refusal ∷ spans) = past_moved n spans
-
-pub past_append : (a b : List Span) → past_in (a ++ b) ≡ past_in a ++ past_in b
-past_append [] b = refl
-past_append (ReadSpan m events t ∷ a) b = ap (λ (past : List PastData). Said t ∷ past) (past_append a b)
-past_append (RefusedSpan m front event refusal ∷ a) b =
-    ap (λ (past : List PastData). lost front event refusal.reason ++ past) (past_append a b)
-    ∙ sym (append_assoc (lost front event refusal.reason) (past_in a) (past_in b))
-past_append (TruncatedSpan m front refusal ∷ a) b = past_append a b
 
 -- where these addresses are ignored
 module _ (ignored : Option (List ℕ)) where
@@ -111,21 +93,22 @@ module _ (ignored : Option (List ℕ)) where
       ∙ moved_if n span (filter (is_told ignored) spans) (is_told ignored span))
 
   -- an end inside a packet is no transaction, whether it is told or not
-  tells_none_if : (span : Span) (spans : List Span) (told : Bool) → past_in (span ∷ []) ≡ []
-      → past_in spans ≡ [] → past_in (cond told (span ∷ spans) spans) ≡ []
-  tells_none_if span spans true own none =
-      past_append (span ∷ []) spans ∙ (ap (λ (past : List PastData). past ++ past_in spans) own
+  tells_none_if : (lost : ℕ → List Event → List PastData) (span : Span) (spans : List Span) (told : Bool)
+      → past_in lost (span ∷ []) ≡ []
+      → past_in lost spans ≡ [] → past_in lost (cond told (span ∷ spans) spans) ≡ []
+  tells_none_if lost span spans true own none =
+      past_both lost (span ∷ []) spans ∙ (ap (λ (past : List PastData). past ++ past_in lost spans) own
       ∙ none)
-  tells_none_if span spans false own none = none
+  tells_none_if lost span spans false own none = none
 
-  pub ends_tell_none : (last : List Span) → filter is_whole last ≡ []
-      → past_in (filter (is_told ignored) last) ≡ []
-  ends_tell_none [] inside = refl
-  ends_tell_none (ReadSpan m events t ∷ last) inside = absurd (cc inside)
-  ends_tell_none (RefusedSpan m front event refusal ∷ last) inside = absurd (cc inside)
-  ends_tell_none (TruncatedSpan m front refusal ∷ last) inside =
-      tells_none_if (TruncatedSpan m front refusal) (filter (is_told ignored) last)
-      (is_told ignored (TruncatedSpan m front refusal)) refl (ends_tell_none last inside)
+  pub ends_tell_none : (lost : ℕ → List Event → List PastData) (last : List Span) → filter is_whole last ≡ []
+      → past_in lost (filter (is_told ignored) last) ≡ []
+  ends_tell_none lost [] inside = refl
+  ends_tell_none lost (ReadSpan m events t ∷ last) inside = absurd (cc inside)
+  ends_tell_none lost (RefusedSpan m front event refusal ∷ last) inside = absurd (cc inside)
+  ends_tell_none lost (TruncatedSpan m front refusal ∷ last) inside =
+      tells_none_if lost (TruncatedSpan m front refusal) (filter (is_told ignored) last)
+      (is_told ignored (TruncatedSpan m front refusal)) refl (ends_tell_none lost last inside)
 
 -- spans that are whole are all told
 pub all_told : (ignored : Option (List ℕ)) (spans : List Span) → All (λ span. is_whole span ≡ true) spans
@@ -137,36 +120,3 @@ all_told ignored (span ∷ spans) whole =
     ap (λ (b : Bool). cond (b || is_other ignored span) (span ∷ others) others)
     (All-head (λ (s : Span). is_whole s ≡ true) span spans whole)
     ∙ ap (λ (l : List Span). span ∷ l) rest
-
--- ---- facts
-
-module _ (ignored : Option (List ℕ)) (place : ℕ → Place) (times : ℕ → Option (List ℕ)) where
-  pub facts_append : (before : List PastData) (a b : List Span)
-      → span_facts ignored place times before (a ++ b) ≡ span_facts ignored place times before a
-      ++ span_facts ignored place times (before ++ past_in a) b
-  facts_append before [] b = ap (λ (past : List PastData). span_facts ignored place times past b)
-      (sym (append-nil before))
-  facts_append before (ReadSpan n events t ∷ a) b =
-      let own = other_or place times n (other_address ignored events)
-      (packet_facts before place (times n) n events t) in
-      ap (λ (l : List FactData). own ++ l)
-      (facts_append (before ++ Said t ∷ []) a b
-      ∙ ap (λ (past : List PastData). span_facts ignored place times (before ++ Said t ∷ []) a
-      ++ span_facts ignored place times past b) (append_assoc before (Said t ∷ []) (past_in a)))
-      ∙ sym (append_assoc own (span_facts ignored place times (before ++ Said t ∷ []) a)
-      (span_facts ignored place times (before ++ Said t ∷ past_in a) b))
-  facts_append before (RefusedSpan n front event refusal ∷ a) b =
-      let own = other_or place times n (other_address ignored (front ++ event ∷ []))
-      (refused_span place times before n front (Some event) refusal ∷ []) in
-      ap (λ (l : List FactData). own ++ l)
-      (facts_append (before ++ lost front event refusal.reason) a b
-      ∙ ap (λ (past : List PastData). span_facts ignored place times (before ++ lost front event refusal.reason) a
-      ++ span_facts ignored place times past b) (append_assoc before (lost front event refusal.reason) (past_in a)))
-      ∙ sym (append_assoc own (span_facts ignored place times (before ++ lost front event refusal.reason) a)
-      (span_facts ignored place times (before ++ (lost front event refusal.reason ++ past_in a)) b))
-  facts_append before (TruncatedSpan n front refusal ∷ a) b =
-      let own = other_or place times n (other_address ignored front)
-      (refused_span place times before n front None refusal ∷ []) in
-      ap (λ (l : List FactData). own ++ l) (facts_append before a b)
-      ∙ sym (append_assoc own (span_facts ignored place times before a)
-      (span_facts ignored place times (before ++ past_in a) b))

@@ -65,10 +65,10 @@ so_far_in Keeps BadWord start now bytes text move ends stands =
     let is_bad = subst (λ (l : BadLine). IsBadLine choice.ignored (teller_profile start) behind.b l) (same_line has.bad)
     (bad_line_now choice (teller_profile start) behind.b has.bad has.so_far (solid_no_lf has.bad.line has.under_way)) in
     has_bad_line choice (teller_profile start) Keeps (teller_bad_words start) _ _ bytes text behind has.bad
-    (front_facts choice.ignored behind.b has.bad) has.is_text is_bad (λ none. has.so_far.word)
+    (front_facts choice.ignored (teller_profile start) behind.b has.bad) has.is_text is_bad (λ none. has.so_far.word)
     (inl ((refl, has.under_way, behind.holds.short refl), refl))
     ((has.told []).lines ∙ ap (λ (l : BadLine). fact_lines choice (teller_profile start)
-    (front_facts choice.ignored behind.b l)) (same_line has.bad))
+    (front_facts choice.ignored (teller_profile start) behind.b l)) (same_line has.bad))
 -- in the rest of its line: its facts too
 so_far_in Keeps InLine start now bytes text move ends stands =
     let choice = teller_choice start in
@@ -77,10 +77,10 @@ so_far_in Keeps InLine start now bytes text move ends stands =
     let is_bad = subst (λ (l : BadLine). IsBadLine choice.ignored (teller_profile start) behind.b l) (same_line has.bad)
     (bad_line_now choice (teller_profile start) behind.b has.bad has.so_far has.in_line) in
     has_bad_line choice (teller_profile start) Keeps (teller_bad_words start) _ _ bytes text behind has.bad
-    (bad_line_facts choice.ignored behind.b has.bad) has.is_text is_bad (λ none. has.so_far.word)
+    (bad_line_facts choice.ignored (teller_profile start) behind.b has.bad) has.is_text is_bad (λ none. has.so_far.word)
     (inr (λ under_way. has.over has.bad.line [] (sym (append-nil has.bad.line)) under_way.1 under_way.2, refl))
     ((has.told [] [] [] refl tt).lines ∙ ap (λ (l : BadLine). fact_lines choice (teller_profile start)
-    (bad_line_facts choice.ignored behind.b l)) (same_line has.bad))
+    (bad_line_facts choice.ignored (teller_profile start) behind.b l)) (same_line has.bad))
 
 -- ---- where more is wanted
 

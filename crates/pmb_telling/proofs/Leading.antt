@@ -58,13 +58,13 @@ module _ (choice : ChoiceData) (profile : List DeviceParts) where
   -- a bad line more, and its LF
   leads_on : (b : Before) (bads : List BadLine) (facts : List FactData) (bad : BadLine)
       → LeadsTo choice profile Continue b bads facts → IsBadLine choice.ignored profile b bad
-      → LeadsTo choice profile Continue (behind_line choice.ignored b bad) (bads ++ bad ∷ [])
-      (facts ++ bad_line_facts choice.ignored b bad)
+      → LeadsTo choice profile Continue (behind_line choice.ignored profile b bad) (bads ++ bad ∷ [])
+      (facts ++ bad_line_facts choice.ignored profile b bad)
   leads_on b bads facts bad leads is_bad =
-      let own = bad_line_facts choice.ignored b bad in
+      let own = bad_line_facts choice.ignored profile b bad in
       -- the bytes before the line, the line, its LF and the rest, in one row
       let bytes_are : (rest : List ℕ) → b.read ++ ((bad.front ++ bad.line) ++ (10 ∷ rest))
-      ≡ (behind_line choice.ignored b bad).read
+      ≡ (behind_line choice.ignored profile b bad).read
       ++ rest =
       λ rest. sym (append_assoc b.read (bad.front ++ bad.line) (10 ∷ rest))
       ∙ (ap (λ (l : List ℕ). l ++ (10 ∷ rest)) (sym (append_assoc b.read bad.front bad.line))
@@ -100,11 +100,11 @@ module _ (choice : ChoiceData) (profile : List DeviceParts) where
   pub leads_line : (after : AfterBadToken) (b : Before) (bads : List BadLine) (facts : List FactData) (bad : BadLine)
       → after ≡ Continue → LeadsTo choice profile after b bads facts
       → IsBadLine choice.ignored profile b bad
-      → LeadsTo choice profile after (behind_line choice.ignored b bad) (bads ++ bad ∷ [])
-      (facts ++ bad_line_facts choice.ignored b bad)
+      → LeadsTo choice profile after (behind_line choice.ignored profile b bad) (bads ++ bad ∷ [])
+      (facts ++ bad_line_facts choice.ignored profile b bad)
   leads_line after b bads facts bad goes leads is_bad =
-      subst (λ (a : AfterBadToken). LeadsTo choice profile a (behind_line choice.ignored b bad) (bads ++ bad ∷ [])
-      (facts ++ bad_line_facts choice.ignored b bad)) (sym goes)
+      subst (λ (a : AfterBadToken). LeadsTo choice profile a (behind_line choice.ignored profile b bad) (bads ++ bad ∷ [])
+      (facts ++ bad_line_facts choice.ignored profile b bad)) (sym goes)
       (leads_on b bads facts bad (subst (λ (a : AfterBadToken). LeadsTo choice profile a b bads facts) goes leads)
       is_bad)
 
@@ -115,7 +115,7 @@ module _ (choice : ChoiceData) (profile : List DeviceParts) where
       → IsBadLine choice.ignored profile b bad
       → IsBehindLine rest → (after ≡ End) ⊎ (rest ≡ [])
       → FactsFrom choice.ignored profile after b ((bad.front ++ bad.line) ++ rest) (bad ∷ [])
-      (bad_line_facts choice.ignored b bad ++ []) (behind_line choice.ignored b bad).counts
+      (bad_line_facts choice.ignored profile b bad ++ []) (behind_line choice.ignored profile b bad).counts
   last_line after b bad rest is_bad behind nowhere =
       (rest, [], refl, behind, is_bad, refl, goes_nowhere after rest _ _ nowhere (refl, refl, refl))
 
@@ -168,16 +168,16 @@ module _ (choice : ChoiceData) (profile : List DeviceParts) where
         (tally : Tally)
         → behind.used ++ tail ≡ bad.front ++ (bad.line ++ rest) → IsBadLine choice.ignored profile behind.b bad
         → IsBehindLine rest → (after ≡ End) ⊎ (rest ≡ [])
-        → behind.put ++ said ≡ fact_lines choice profile (bad_line_facts choice.ignored behind.b bad)
-        ++ last_lines choice profile (behind_line choice.ignored behind.b bad).counts
-        → IsTallyOf (behind_line choice.ignored behind.b bad).counts.packets
-        ((behind_line choice.ignored behind.b bad).counts.refusals
-        + (behind_line choice.ignored behind.b bad).counts.bad_tokens) tally
-        → All (behind.facts ++ bad_line_facts choice.ignored behind.b bad)
+        → behind.put ++ said ≡ fact_lines choice profile (bad_line_facts choice.ignored profile behind.b bad)
+        ++ last_lines choice profile (behind_line choice.ignored profile behind.b bad).counts
+        → IsTallyOf (behind_line choice.ignored profile behind.b bad).counts.packets
+        ((behind_line choice.ignored profile behind.b bad).counts.refusals
+        + (behind_line choice.ignored profile behind.b bad).counts.bad_tokens) tally
+        → All (behind.facts ++ bad_line_facts choice.ignored profile behind.b bad)
         → WritesKept All choice profile after (bytes ++ tail) (text ++ said) tally
     writes_bad_line All tail said bad rest tally bytes_are is_bad is_behind nowhere said_are tallied kept =
-        let own = bad_line_facts choice.ignored behind.b bad in
-        let counts = (behind_line choice.ignored behind.b bad).counts in
+        let own = bad_line_facts choice.ignored profile behind.b bad in
+        let counts = (behind_line choice.ignored profile behind.b bad).counts in
         writes_told All tail said (bad ∷ []) (own ++ []) counts tally
         (subst (λ (l : List ℕ). FactsFrom choice.ignored profile after behind.b l (bad ∷ []) (own ++ []) counts)
         (append_assoc bad.front bad.line rest ∙ sym bytes_are)
@@ -188,7 +188,7 @@ module _ (choice : ChoiceData) (profile : List DeviceParts) where
 
     -- so far a bad line, whose fact is out or not
     pub has_bad_line : (bad : BadLine) (facts : List FactData) → behind.used ≡ bad.front ++ bad.line
-        → IsBadLine choice.ignored profile behind.b bad → StaysBad bad [] → IsOutOf choice.ignored behind.b bad [] facts
+        → IsBadLine choice.ignored profile behind.b bad → StaysBad bad [] → IsOutOf choice.ignored profile behind.b bad [] facts
         → behind.put ≡ fact_lines choice profile facts → HasTold choice profile after bytes text
     has_bad_line bad facts used_are is_bad stays out put_are =
         has_written (bad ∷ []) facts (

@@ -12,14 +12,15 @@ use Rattle.pmb_command.specs.Parts.{DeviceParts}
 use Rattle.pmb_io.specs.Count.{capped}
 use Rattle.pmb_io.specs.Lines.{HasNoLf}
 use Rattle.pmb_telling.specs.Text.{BadLine, bad_line_facts, behind_line, front_facts, text_facts}
-use Rattle.pmb_telling.specs.Text.{word_fact}
+use Rattle.pmb_telling.specs.Text.{past_before, word_fact}
 use Rattle.pmb_telling.specs.machine.Standing.{HasBadWord, InBadLine, IsBadSoFar, KeptIn, behind_bytes, behind_fact}
 use Rattle.pmb_telling.specs.machine.Standing.{last_word_lines, longer_line, open_word_fact}
 use Rattle.pmb_telling.proofs.Lines.{behind_front}
 use Rattle.pmb_telling.proofs.Facts.{counts_append, counts_moved, ends_tell_none, lines_append, told_moved}
-use Rattle.pmb_telling.proofs.Facts.{past_append, past_moved}
+use Rattle.pmb_fact_stream.proofs.Losing.{past_both, past_moved}
 use Rattle.pmb_telling.proofs.OpenOthers.{TellsOpen, facts_told}
 use Rattle.pmb_telling.proofs.Words.{no_lf_append, solid_both}
+use Rattle.pmb_fact_stream.specs.Lost.{lost_in}
 use Rattle.pmb_fact_stream.specs.Spans.{bad_token_fact}
 use Rattle.pmb_json_objects.specs.Head.{Head}
 use Rattle.pmb_json_objects.specs.Counts.{CountsData}
@@ -32,7 +33,7 @@ use Rattle.pmb_spans.specs.Spans.{Span, Spans, SpansFrom, moved_spans}
 use Rattle.pmb_keeper.specs.Setting.{Setting}
 use Rattle.pmb_fact_stream.specs.declared.kept_stream.KeptStream.{KeptStream}
 use Rattle.pmb_fact_stream.specs.declared.stream.Stream.{Stream}
-use Rattle.pmb_fact_stream.specs.Before.{Before, with_bytes, with_reached}
+use Rattle.pmb_fact_stream.specs.Before.{Before, past_of, with_bytes, with_reached}
 use Rattle.pmb_fact_stream.specs.Choice.{ChoiceData}
 use Rattle.pmb_fact_stream.specs.Others.{is_told}
 use Rattle.pmb_fact_stream.specs.Spans.{after_open, after_spans, past_in}
@@ -100,7 +101,7 @@ module _ (choice : ChoiceData) (profile : List DeviceParts) where
   pub word_is : (b : Before) (bad : BadLine) (more : List ℕ) (time : Option (List ℕ)) → StandsThere b bad
       → time ≡ open_time bad.front bad.events
       → take 32 (front_word (bad.line ++ more)) ≡ take 32 bad.line
-      → open_word_fact time (behind_bytes choice.ignored b bad) ≡ word_fact b (longer_line bad more)
+      → open_word_fact time (behind_bytes choice.ignored profile b bad) ≡ word_fact b (longer_line bad more)
   word_is b bad more time there timed told =
       let at = capped (b.n + length bad.events) in
       let word = open_word ((b.read ++ bad.front) ++ bad.line) in
@@ -114,11 +115,11 @@ module _ (choice : ChoiceData) (profile : List DeviceParts) where
 
   -- it goes out after those before it
   pub lines_with_word : (b : Before) (bad : BadLine) (more put said : List ℕ) (word : FactData)
-      → put ≡ fact_lines choice profile (front_facts choice.ignored b (longer_line bad more))
+      → put ≡ fact_lines choice profile (front_facts choice.ignored profile b (longer_line bad more))
       → said ≡ fact_lines choice profile (word ∷ []) → word ≡ word_fact b (longer_line bad more)
-      → put ++ said ≡ fact_lines choice profile (bad_line_facts choice.ignored b (longer_line bad more))
+      → put ++ said ≡ fact_lines choice profile (bad_line_facts choice.ignored profile b (longer_line bad more))
   lines_with_word b bad more put said word put_are said_are is =
-      let front = front_facts choice.ignored b (longer_line bad more) in
+      let front = front_facts choice.ignored profile b (longer_line bad more) in
       ap (λ (l : List ℕ). l ++ said) put_are
       ∙ (ap (λ (l : List ℕ). fact_lines choice profile front ++ l)
       (said_are ∙ ap (λ (o : FactData). fact_lines choice profile (o ∷ [])) is)
@@ -126,33 +127,33 @@ module _ (choice : ChoiceData) (profile : List DeviceParts) where
 
   -- and is kept
   pub keeps_with_word : (A B C : List FactData → Type 0) (b : Before) (bad : BadLine) (more : List ℕ) (word : FactData)
-      → KeepsOn A B (front_facts choice.ignored b (longer_line bad more)) → KeepsOn B C (word ∷ [])
-      → word ≡ word_fact b (longer_line bad more) → KeepsOn A C (bad_line_facts choice.ignored b (longer_line bad more))
+      → KeepsOn A B (front_facts choice.ignored profile b (longer_line bad more)) → KeepsOn B C (word ∷ [])
+      → word ≡ word_fact b (longer_line bad more) → KeepsOn A C (bad_line_facts choice.ignored profile b (longer_line bad more))
   keeps_with_word A B C b bad more word front own is =
-      let facts = front_facts choice.ignored b (longer_line bad more) in
+      let facts = front_facts choice.ignored profile b (longer_line bad more) in
       subst (λ (o : FactData). KeepsOn A C (facts ++ o ∷ [])) is (keeps_both A B C facts (word ∷ []) front own)
 
   -- and the counts after it
   pub lines_with_counts : (b : Before) (bad : BadLine) (more put said : List ℕ) (counts : CountsData)
-      → put ≡ fact_lines choice profile (bad_line_facts choice.ignored b (longer_line bad more))
+      → put ≡ fact_lines choice profile (bad_line_facts choice.ignored profile b (longer_line bad more))
       → said ≡ last_lines choice profile counts
-      → put ++ said ≡ fact_lines choice profile (bad_line_facts choice.ignored b (longer_line bad more))
+      → put ++ said ≡ fact_lines choice profile (bad_line_facts choice.ignored profile b (longer_line bad more))
       ++ last_lines choice profile counts
   lines_with_counts b bad more put said counts put_are said_are =
-      let facts = bad_line_facts choice.ignored b (longer_line bad more) in
+      let facts = bad_line_facts choice.ignored profile b (longer_line bad more) in
       ap (λ (l : List ℕ). l ++ said) put_are ∙ ap (λ (l : List ℕ). fact_lines choice profile facts ++ l) said_are
 
   -- both
   pub lines_with_last : (b : Before) (bad : BadLine) (more put said : List ℕ) (time : Option (List ℕ))
       → StandsThere b bad → time ≡ open_time bad.front bad.events
       → take 32 (front_word (bad.line ++ more)) ≡ take 32 bad.line
-      → put ≡ fact_lines choice profile (front_facts choice.ignored b (longer_line bad more))
-      → said ≡ last_word_lines choice profile time (behind_bytes choice.ignored b bad)
-      → put ++ said ≡ fact_lines choice profile (bad_line_facts choice.ignored b (longer_line bad more))
-      ++ last_lines choice profile (behind_line choice.ignored b (longer_line bad more)).counts
+      → put ≡ fact_lines choice profile (front_facts choice.ignored profile b (longer_line bad more))
+      → said ≡ last_word_lines choice profile time (behind_bytes choice.ignored profile b bad)
+      → put ++ said ≡ fact_lines choice profile (bad_line_facts choice.ignored profile b (longer_line bad more))
+      ++ last_lines choice profile (behind_line choice.ignored profile b (longer_line bad more)).counts
   lines_with_last b bad more put said time there timed told put_are said_are =
-      let word = open_word_fact time (behind_bytes choice.ignored b bad) in
-      let counts = (behind_line choice.ignored b (longer_line bad more)).counts in
+      let word = open_word_fact time (behind_bytes choice.ignored profile b bad) in
+      let counts = (behind_line choice.ignored profile b (longer_line bad more)).counts in
       let ends = last_lines choice profile counts in
       let own = fact_lines choice profile (word ∷ []) in
       ap (λ (l : List ℕ). put ++ l) said_are
@@ -214,23 +215,26 @@ module _ (choice : ChoiceData) (profile : List DeviceParts) where
   -- and what the stream knows there
   pub met_knows : (b : Before) (reached : Reached) (front : List ℕ) (last : List Span) (stream : Stream)
       → TellsOpen choice.ignored reached last → EndsWith reached last → reached.text ≡ front ++ open_word reached.text
-      → StreamKnows (with_reached choice.ignored b reached) stream
-      → StreamKnows (behind_bytes choice.ignored b (met b reached front last)) stream
-  met_knows b reached front last stream tells end split knows =
+      → reached.profile ≡ profile → StreamKnows (with_reached choice.ignored b reached) stream
+      → StreamKnows (behind_bytes choice.ignored profile b (met b reached front last)) stream
+  met_knows b reached front last stream tells end split same knows =
       -- an end inside a packet tells of no transaction; if it is told, it was counted
       let out = filter (is_told choice.ignored) last in
       let spans = reached.spans ++ out in
-      let same_past : past_in (moved_spans b.n spans) ≡ past_in reached.spans =
-      past_moved b.n spans ∙ (past_append reached.spans out
-      ∙ (ap (λ (past : List PastData). past_in reached.spans ++ past)
-      (ends_tell_none choice.ignored last end.inside) ∙ append-nil (past_in reached.spans))) in
+      let lost = lost_in profile 0 reached.events in
+      let same_past : past_in (lost_in profile b.n reached.events) (moved_spans b.n spans) ≡ past_of reached =
+      past_moved profile b.n reached.events spans ∙ (past_both lost reached.spans out
+      ∙ (ap (λ (past : List PastData). past_in lost reached.spans ++ past)
+      (ends_tell_none choice.ignored lost last end.inside) ∙ append-nil (past_in lost reached.spans)))
+      ∙ ap (λ (p : List DeviceParts). past_in (lost_in p 0 reached.events) reached.spans) (sym same) in
       let counts = after_spans choice.ignored b.counts reached.spans in
       let same_counts : after_spans choice.ignored b.counts (moved_spans b.n spans)
       ≡ after_open choice.ignored counts reached.standing =
       counts_moved choice.ignored b.counts b.n spans
       ∙ (counts_append choice.ignored b.counts reached.spans out ∙ tells.counts counts) in
       knows_as (b.read ++ reached.text) ((b.read ++ front) ++ open_word reached.text) (b.n + length reached.events)
-      (b.past ++ past_in reached.spans) (b.past ++ past_in (moved_spans b.n spans))
+      (b.past ++ past_of reached)
+      (b.past ++ past_in (lost_in profile b.n reached.events) (moved_spans b.n spans))
       (after_open choice.ignored counts reached.standing) (after_spans choice.ignored b.counts (moved_spans b.n spans))
       stream (ap (λ (l : List ℕ). b.read ++ l) split ∙ sym (append_assoc b.read front (open_word reached.text)))
       (ap (λ (l : List PastData). b.past ++ l) (sym same_past)) (sym same_counts) knows
@@ -248,15 +252,21 @@ module _ (choice : ChoiceData) (profile : List DeviceParts) where
 
   -- what holds of the facts that were told holds of those before the word
   pub met_told : (Holds : List FactData → Type 0) (b : Before) (reached : Reached) (front more : List ℕ)
-      (last : List Span) → TellsOpen choice.ignored reached last
+      (last : List Span) → TellsOpen choice.ignored reached last → reached.profile ≡ profile
       → reached.text ≡ front ++ open_word reached.text → HoldsOf choice b reached Holds
-      → Holds (front_facts choice.ignored b (longer_line (met b reached front last) more))
-  met_told Holds b reached front more last tells split holds =
+      → Holds (front_facts choice.ignored profile b (longer_line (met b reached front last) more))
+  met_told Holds b reached front more last tells same split holds =
       let spans = moved_spans b.n (reached.spans ++ filter (is_told choice.ignored) last) in
+      let lost = lost_in reached.profile b.n (reached.events ++ []) in
+      let bytes = front ++ (open_word reached.text ++ more) in
       subst Holds
-      (facts_told choice.ignored b reached (reached.text ++ more) last tells
-      ∙ ap (λ (l : List ℕ). text_facts choice.ignored b l b.past spans)
-      (ap (λ (l : List ℕ). l ++ more) split ∙ append_assoc front (open_word reached.text) more)) (holds more)
+      (facts_told choice.ignored b reached (reached.text ++ more) lost last tells
+      ∙ ap (λ (l : List ℕ). text_facts choice.ignored b l lost b.past spans)
+      (ap (λ (l : List ℕ). l ++ more) split ∙ append_assoc front (open_word reached.text) more)
+      ∙ ap (λ (es : List Event). text_facts choice.ignored b bytes (lost_in reached.profile b.n es) b.past spans)
+      (append-nil reached.events)
+      ∙ ap (λ (p : List DeviceParts). text_facts choice.ignored b bytes (lost_in p b.n reached.events) b.past spans)
+      same) (holds more [])
 
   pub has_met : {K : Type 0} (Keeps : K → Setting → List FactData → Type 0) (keeper : K) (b : Before)
       (reached : Reached)
@@ -282,10 +292,10 @@ module _ (choice : ChoiceData) (profile : List DeviceParts) where
         };
         is_text = split;
         under_way = solid;
-        knows = met_knows b reached front last now.stream tells end split knows;
+        knows = met_knows b reached front last now.stream tells end split under knows;
         time = met_time reached front (at_hand ++ []) now.stream stay split (bad []) keeps;
         told = λ more. met_told (IsTold choice profile (KeptIn Keeps choice profile keeper)
-            (KeptIn Keeps choice profile now.keeper) text) b reached front more last tells split told;
+            (KeptIn Keeps choice profile now.keeper) text) b reached front more last tells under split told;
       }
 
   -- ---- it goes on
@@ -321,14 +331,15 @@ module _ (choice : ChoiceData) (profile : List DeviceParts) where
             (record {
               read = l;
               n = b.n + length bad.events;
-              past = b.past ++ past_in bad.spans;
+              past = b.past ++ past_before profile b bad;
               counts =
                   after_spans choice.ignored b.counts bad.spans;
             }) new)
-            (append_assoc (b.read ++ bad.front) bad.line word) (takes (behind_bytes choice.ignored b bad) has.knows);
+            (append_assoc (b.read ++ bad.front) bad.line word) (takes (behind_bytes choice.ignored profile b bad) has.knows);
         time = timed ∙ has.time;
         told = λ more. subst (λ (l : List ℕ). IsTold choice profile (KeptIn Keeps choice profile keeper)
-            (KeptIn Keeps choice profile old.keeper) put (text_facts choice.ignored b (bad.front ++ l) b.past bad.spans))
+            (KeptIn Keeps choice profile old.keeper) put (text_facts choice.ignored b (bad.front ++ l)
+            (lost_in profile b.n bad.events) b.past bad.spans))
             (sym (append_assoc bad.line word more)) (has.told (word ++ more));
       }
 
@@ -359,14 +370,14 @@ module _ (choice : ChoiceData) (profile : List DeviceParts) where
             (record {
               read = l;
               n = b.n + length bad.events;
-              past = b.past ++ past_in bad.spans;
+              past = b.past ++ past_before profile b bad;
               counts =
-                  (behind_fact choice.ignored b bad).counts;
+                  (behind_fact choice.ignored profile b bad).counts;
             }) new)
-            (append_assoc (b.read ++ bad.front) bad.line line) (takes (behind_fact choice.ignored b bad) has.knows);
+            (append_assoc (b.read ++ bad.front) bad.line line) (takes (behind_fact choice.ignored profile b bad) has.knows);
         told = λ more later rest split behind. subst (λ (l : List ℕ). IsTold choice profile
             (KeptIn Keeps choice profile keeper) (KeptIn Keeps choice profile old.keeper) put
-            (bad_line_facts choice.ignored b (record bad { line = l }))) (sym (append_assoc bad.line line later))
+            (bad_line_facts choice.ignored profile b (record bad { line = l }))) (sym (append_assoc bad.line line later))
             (has.told more (line ++ later) rest (ap (λ (l : List ℕ). l ++ more) all
             ∙ (ap (λ (l : List ℕ). line ++ l) split ∙ sym (append_assoc line later rest))) behind);
       }

@@ -10,6 +10,7 @@ use Rattle.pmb_command.specs.Parts.{DeviceParts}
 use Rattle.pmb_spans.specs.Spans.{Span, SpansFrom}
 use Rattle.pmb_scan.specs.declared.after_bad_token.AfterBadToken.{AfterBadToken}
 use Rattle.pmb_scan.specs.declared.after_bad_token.AfterBadToken.TheVariants.{End, Continue}
+use Rattle.pmb_fact_stream.specs.Lost.{lost_in}
 use Rattle.pmb_fact_stream.specs.Before.{Before, at_first}
 use Rattle.pmb_fact_stream.specs.Choice.{ChoiceData}
 use Rattle.pmb_fact_stream.specs.Others.{is_told}
@@ -49,8 +50,10 @@ module _ (choice : ChoiceData) (profile : List DeviceParts)
       let events = one_ended bytes x.events y.events x.spells y.spells in
       let spans = one_list_of_spans b.n y.events x.spans y.spans
       (subst (λ (es : List Event). SpansFrom profile b.n es x.spans) events x.reads) y.reads in
-      x.all ∙ ap (λ (l : List Span). text_facts choice.ignored b bytes b.past
-      (filter (is_told choice.ignored) l)) spans ∙ sym y.all
+      x.all ∙ ap (λ (l : List Span). text_facts choice.ignored b bytes (lost_in profile b.n x.events) b.past
+      (filter (is_told choice.ignored) l)) spans
+      ∙ ap (λ (es : List Event). text_facts choice.ignored b bytes (lost_in profile b.n es) b.past
+      (filter (is_told choice.ignored) y.spans)) events ∙ sym y.all
 
   -- a bad line is the first of its text whatever follows
   stays_first : (bad : BadLine) (rest more : List ℕ) → IsBehindLine rest → StaysBad bad rest
@@ -74,8 +77,8 @@ module _ (choice : ChoiceData) (profile : List DeviceParts)
       (subst (λ (text : List ℕ). FirstBadWord (text ++ begins.0) bad.events (length bad.front)) (sym split)
       (stays_first bad rest begins.0 behind stays word))
 
-  one_out : (b : Before) (bad : BadLine) (rest : List ℕ) (o p : List FactData) → IsOutOf choice.ignored b bad rest o
-      → IsOutOf choice.ignored b bad rest p → o ≡ p
+  one_out : (b : Before) (bad : BadLine) (rest : List ℕ) (o p : List FactData) → IsOutOf choice.ignored profile b bad rest o
+      → IsOutOf choice.ignored profile b bad rest p → o ≡ p
   one_out b bad rest o p (inl x) (inl y) = x.1 ∙ sym y.1
   one_out b bad rest o p (inl x) (inr y) = absurd (y.0 x.0)
   one_out b bad rest o p (inr x) (inl y) = absurd (x.0 y.0)
@@ -85,9 +88,9 @@ module _ (choice : ChoiceData) (profile : List DeviceParts)
   abbrev Behind : AfterBadToken → Before → List BadLine → List FactData → BadLine → List ℕ → Type 0
   Behind after b more facts bad rest =
       GoesOn after rest
-      (λ behind. (others : List FactData) × (facts ≡ bad_line_facts choice.ignored b bad ++ others)
-      × SoFarFrom choice.ignored profile after (behind_line choice.ignored b bad) behind more others)
-      ((more ≡ []) × IsOutOf choice.ignored b bad rest facts)
+      (λ behind. (others : List FactData) × (facts ≡ bad_line_facts choice.ignored profile b bad ++ others)
+      × SoFarFrom choice.ignored profile after (behind_line choice.ignored profile b bad) behind more others)
+      ((more ≡ []) × IsOutOf choice.ignored profile b bad rest facts)
 
   one_behind : (after : AfterBadToken) (b : Before) (xs ys : List BadLine) (o p : List FactData) (bad : BadLine)
       (rest : List ℕ)
@@ -98,8 +101,8 @@ module _ (choice : ChoiceData) (profile : List DeviceParts)
   one_behind End b xs ys o p bad rest later x y = one_out b bad rest o p x.1 y.1
   one_behind Continue b xs ys o p bad [] later x y = one_out b bad [] o p x.1 y.1
   one_behind Continue b xs ys o p bad (lf ∷ bytes) later x y =
-      x.1 ∙ ap (λ (os : List FactData). bad_line_facts choice.ignored b bad ++ os)
-      (later (behind_line choice.ignored b bad) bytes x.0 y.0 x.2 y.2) ∙ sym y.1
+      x.1 ∙ ap (λ (os : List FactData). bad_line_facts choice.ignored profile b bad ++ os)
+      (later (behind_line choice.ignored profile b bad) bytes x.0 y.0 x.2 y.2) ∙ sym y.1
 
   one_list : (after : AfterBadToken) (b : Before) (bytes : List ℕ) (xs ys : List BadLine) (facts others : List FactData)
       → SoFarFrom choice.ignored profile after b bytes xs facts

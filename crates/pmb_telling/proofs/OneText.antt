@@ -11,6 +11,7 @@ use Rattle.pmb_io.specs.declared.tally.Tally.{Tally}
 use Rattle.pmb_spans.specs.Spans.{Span, SpansFrom}
 use Rattle.pmb_scan.specs.declared.after_bad_token.AfterBadToken.{AfterBadToken}
 use Rattle.pmb_scan.specs.declared.after_bad_token.AfterBadToken.TheVariants.{End, Continue}
+use Rattle.pmb_fact_stream.specs.Lost.{lost_in}
 use Rattle.pmb_fact_stream.specs.Before.{Before, at_first}
 use Rattle.pmb_fact_stream.specs.Choice.{ChoiceData}
 use Rattle.pmb_fact_stream.specs.Others.{is_told}
@@ -52,7 +53,9 @@ module _ (ignored : Option (List ℕ)) (profile : List DeviceParts)
       let events = one_spelling bytes x.events y.events x.spells y.spells in
       let spans = one_list_of_spans b.n y.events x.spans y.spans
       (subst (λ (es : List Event). SpansFrom profile b.n es x.spans) events x.reads) y.reads in (
-        x.all ∙ ap (text_facts ignored b bytes b.past) spans ∙ sym y.all,
+        x.all ∙ ap (text_facts ignored b bytes (lost_in profile b.n x.events) b.past) spans
+            ∙ ap (λ (es : List Event). text_facts ignored b bytes (lost_in profile b.n es) b.past y.spans) events
+            ∙ sym y.all,
         x.behind
             ∙ ap (after_spans ignored b.counts) spans ∙ sym y.behind,
       )
@@ -88,8 +91,8 @@ module _ (ignored : Option (List ℕ)) (profile : List DeviceParts)
   abbrev Behind : AfterBadToken → Before → List BadLine → List FactData → CountsData → BadLine → List ℕ → Type 0
   Behind after b more others counts bad rest =
       GoesOn after rest
-      (λ behind. FactsFrom ignored profile after (behind_line ignored b bad) behind more others counts)
-      ((more ≡ []) × (others ≡ []) × (counts ≡ (behind_line ignored b bad).counts))
+      (λ behind. FactsFrom ignored profile after (behind_line ignored profile b bad) behind more others counts)
+      ((more ≡ []) × (others ≡ []) × (counts ≡ (behind_line ignored profile b bad).counts))
 
   -- the facts after the same bad line, if so after the next LF
   one_behind : (after : AfterBadToken) (b : Before) (xs ys : List BadLine) (o p : List FactData) (c d : CountsData)
@@ -99,7 +102,7 @@ module _ (ignored : Option (List ℕ)) (profile : List DeviceParts)
       → Behind after b xs o c bad rest → Behind after b ys p d bad rest → (o ≡ p) × (c ≡ d)
   one_behind End b xs ys o p c d bad rest later x y = (x.1 ∙ sym y.1, x.2 ∙ sym y.2)
   one_behind Continue b xs ys o p c d bad [] later x y = (x.1 ∙ sym y.1, x.2 ∙ sym y.2)
-  one_behind Continue b xs ys o p c d bad (lf ∷ bytes) later x y = later (behind_line ignored b bad) bytes x y
+  one_behind Continue b xs ys o p c d bad (lf ∷ bytes) later x y = later (behind_line ignored profile b bad) bytes x y
 
   -- bytes have the same facts and counts, whatever their bad lines are said to be
   pub one_list : (after : AfterBadToken) (b : Before) (bytes : List ℕ) (xs ys : List BadLine)
@@ -117,8 +120,8 @@ module _ (ignored : Option (List ℕ)) (profile : List DeviceParts)
       (subst (λ (line : BadLine). Behind after b ys y.1 d line y.0) (sym same.0) y.6) in
       let both = one_behind after b xs ys x.1 y.1 c d bad x.0
       (λ next behind p q. one_list Continue next behind xs ys x.1 y.1 c d p q) x.6 there in (
-        x.5 ∙ ap (λ (os : List FactData). bad_line_facts ignored b bad ++ os) both.0
-            ∙ ap (λ (line : BadLine). bad_line_facts ignored b line ++ y.1) same.0 ∙ sym y.5,
+        x.5 ∙ ap (λ (os : List FactData). bad_line_facts ignored profile b bad ++ os) both.0
+            ∙ ap (λ (line : BadLine). bad_line_facts ignored profile b line ++ y.1) same.0 ∙ sym y.5,
         both.1,
       )
 

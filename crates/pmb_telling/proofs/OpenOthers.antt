@@ -5,7 +5,7 @@
 -- their first fact is the one that is out (`LeadsToMore`).
 use Rattle.std.proofs.Common.{◌≡◌, ◌⊎◌, ℕ, ◌+◌, Option, Some, None, inl, inr, List, [], ◌∷◌, ◌++◌, filter}
 use Rattle.std.proofs.Common.{refl, sym, ap, subst, ◌∙◌, append_assoc, append-nil}
-use Rattle.std.proofs.lemmas.List.{append_cancel_left, map-append}
+use Rattle.std.proofs.lemmas.List.{append_cancel_left}
 use Rattle.pmb_bus.specs.declared.event.Event.{Event}
 use Rattle.pmb_bus.specs.declared.event.Event.TheVariants.{Start, Byte, Ack, Nack, Stop}
 use Rattle.pmb_command.specs.Parts.{DeviceParts}
@@ -14,7 +14,7 @@ use Rattle.pmb_reader.specs.declared.refusal.Refusal.{Refusal}
 use Rattle.pmb_reader.specs.Reader.{Standing, Open, Held, Passing}
 use Rattle.pmb_scan.specs.Reached.{EndsWith, IsReading, LeadsOn, Reached, SpansBehind}
 use Rattle.pmb_scan.specs.Scan.{end_spans}
-use Rattle.pmb_spans.specs.Spans.{Span, ReadSpan, RefusedSpan, TruncatedSpan, Spans, SpansFrom, is_whole, moved_span}
+use Rattle.pmb_spans.specs.Spans.{Span, ReadSpan, RefusedSpan, TruncatedSpan, Spans, SpansFrom, is_whole}
 use Rattle.pmb_spans.specs.Spans.{moved_spans}
 use Rattle.pmb_transaction.proofs.Fronts.{Beyond, Within, cut, no_end, no_front}
 use Rattle.pmb_transaction.specs.Capture.{IsPacket, MayFollow, Viable}
@@ -27,26 +27,26 @@ use Rattle.pmb_facts.specs.Fact.{FactData}
 use Rattle.pmb_facts.specs.Packets.{packet_facts}
 use Rattle.pmb_fact_stream.specs.Others.{is_told, is_untold, other_address, span_events}
 use Rattle.pmb_fact_stream.specs.Spans.{IsNoneOutside, after_open, after_spans, open_facts, other_or, refused_span}
-use Rattle.pmb_fact_stream.specs.Spans.{event_place, event_time, lost, past_in, span_facts}
+use Rattle.pmb_fact_stream.specs.Spans.{event_place, event_time, past_in, span_facts}
 use Rattle.pmb_fact_stream.specs.Before.{Before}
 use Rattle.pmb_telling.specs.Text.{text_facts}
-use Rattle.pmb_telling.proofs.Facts.{facts_append, past_moved}
+use Rattle.pmb_fact_stream.proofs.Spans.{facts_moved}
 
 -- ---- what is out where bytes end
 
 -- what the law `others_are_told` says
 pub record OthersAreTold : Type 0 where
   pub facts : (ignored : Option (List ℕ)) (place : ℕ → Place) (times : ℕ → Option (List ℕ))
-      (before : List PastData) (m : ℕ) (reached : Reached) (end : Option Refusal) → IsNoneOutside reached end
-      → span_facts ignored place times before
+      (lost : ℕ → List Event → List PastData) (before : List PastData) (m : ℕ) (reached : Reached) (end : Option Refusal) → IsNoneOutside reached end
+      → span_facts ignored place times lost before
       (moved_spans m (filter (is_told ignored) (end_spans reached.standing end)))
       ≡ open_facts ignored place times m reached.standing
   pub rest : (ignored : Option (List ℕ)) (place : ℕ → Place) (times : ℕ → Option (List ℕ))
-      (before : List PastData) (m : ℕ) (reached : Reached) (end : Option Refusal) → IsNoneOutside reached end
+      (lost : ℕ → List Event → List PastData) (before : List PastData) (m : ℕ) (reached : Reached) (end : Option Refusal) → IsNoneOutside reached end
       → open_facts ignored place times m reached.standing
-      ++ span_facts ignored place times before
+      ++ span_facts ignored place times lost before
       (moved_spans m (filter (is_untold ignored) (end_spans reached.standing end)))
-      ≡ span_facts ignored place times before (moved_spans m (end_spans reached.standing end))
+      ≡ span_facts ignored place times lost before (moved_spans m (end_spans reached.standing end))
   pub counts : (ignored : Option (List ℕ)) (c : CountsData) (reached : Reached) (end : Option Refusal)
       → IsNoneOutside reached end → after_spans ignored c (filter (is_told ignored) (end_spans reached.standing end))
       ≡ after_open ignored c reached.standing
@@ -57,13 +57,15 @@ pub record OthersAreTold : Type 0 where
 -- reached are all told.
 pub record TellsOpen (ignored : Option (List ℕ)) (reached : Reached)
     (last : List Span) : Type 0 where
-  pub facts : (place : ℕ → Place) (times : ℕ → Option (List ℕ)) (before : List PastData) (m : ℕ)
-      → span_facts ignored place times before (moved_spans m (filter (is_told ignored) last))
+  pub facts : (place : ℕ → Place) (times : ℕ → Option (List ℕ)) (lost : ℕ → List Event → List PastData)
+      (before : List PastData) (m : ℕ)
+      → span_facts ignored place times lost before (moved_spans m (filter (is_told ignored) last))
       ≡ open_facts ignored place times m reached.standing
-  pub rest : (place : ℕ → Place) (times : ℕ → Option (List ℕ)) (before : List PastData) (m : ℕ)
+  pub rest : (place : ℕ → Place) (times : ℕ → Option (List ℕ)) (lost : ℕ → List Event → List PastData)
+      (before : List PastData) (m : ℕ)
       → open_facts ignored place times m reached.standing
-      ++ span_facts ignored place times before (moved_spans m (filter (is_untold ignored) last))
-      ≡ span_facts ignored place times before (moved_spans m last)
+      ++ span_facts ignored place times lost before (moved_spans m (filter (is_untold ignored) last))
+      ≡ span_facts ignored place times lost before (moved_spans m last)
   pub counts : (c : CountsData) → after_spans ignored c (filter (is_told ignored) last)
       ≡ after_open ignored c reached.standing
   pub whole : filter (is_told ignored) reached.spans ≡ reached.spans
@@ -72,8 +74,8 @@ pub tells_open : OthersAreTold → (ignored : Option (List ℕ)) (reached : Reac
     (end : Option Refusal) → IsNoneOutside reached end → EndsWith reached (end_spans reached.standing end)
     → TellsOpen ignored reached (end_spans reached.standing end)
 tells_open told ignored reached end none ends = record {
-  facts = λ place times before m. told.facts ignored place times before m reached end none;
-  rest = λ place times before m. told.rest ignored place times before m reached end none;
+  facts = λ place times lost before m. told.facts ignored place times lost before m reached end none;
+  rest = λ place times lost before m. told.rest ignored place times lost before m reached end none;
   counts = λ c. told.counts ignored c reached end none;
   whole = told.whole ignored reached.spans ends.whole;
 }
@@ -85,28 +87,27 @@ module _ (ignored : Option (List ℕ)) (b : Before) (reached : Reached) (text : 
   abbrev pub facts_out : List FactData
   facts_out = open_facts ignored (event_place b.read b.n text) (event_time b.n text) b.n reached.standing
 
-  -- those of the spans reached, and of the others
-  pub facts_behind : (others : List Span)
-      → text_facts ignored b text b.past (moved_spans b.n (reached.spans ++ others))
-      ≡ text_facts ignored b text b.past (moved_spans b.n reached.spans)
-      ++ text_facts ignored b text (b.past ++ past_in reached.spans) (moved_spans b.n others)
-  facts_behind others =
-      ap (text_facts ignored b text b.past) (map-append (moved_span b.n) reached.spans others)
-      ∙ (facts_append ignored (event_place b.read b.n text) (event_time b.n text) b.past
-      (moved_spans b.n reached.spans) (moved_spans b.n others)
-      ∙ ap (λ (past : List PastData). text_facts ignored b text b.past (moved_spans b.n reached.spans)
-      ++ text_facts ignored b text (b.past ++ past) (moved_spans b.n others))
-      (past_moved b.n reached.spans))
+  module _ (lost : ℕ → List Event → List PastData) where
+    -- those of the spans reached, and of the others
+    pub facts_behind : (others : List Span)
+        → text_facts ignored b text lost b.past (moved_spans b.n (reached.spans ++ others))
+        ≡ text_facts ignored b text lost b.past (moved_spans b.n reached.spans)
+        ++ text_facts ignored b text lost (b.past ++ past_in lost (moved_spans b.n reached.spans))
+        (moved_spans b.n others)
+    facts_behind others =
+        facts_moved ignored (event_place b.read b.n text) (event_time b.n text) lost b.past
+        (past_in lost (moved_spans b.n reached.spans)) b.n reached.spans others refl
 
-  -- those that are out are those that are told
-  pub facts_told : (last : List Span) → TellsOpen ignored reached last
-      → text_facts ignored b text b.past (moved_spans b.n reached.spans) ++ facts_out
-      ≡ text_facts ignored b text b.past
-      (moved_spans b.n (reached.spans ++ filter (is_told ignored) last))
-  facts_told last tells =
-      sym (facts_behind (filter (is_told ignored) last)
-      ∙ ap (λ (os : List FactData). text_facts ignored b text b.past (moved_spans b.n reached.spans) ++ os)
-      (tells.facts (event_place b.read b.n text) (event_time b.n text) (b.past ++ past_in reached.spans) b.n))
+    -- those that are out are those that are told
+    pub facts_told : (last : List Span) → TellsOpen ignored reached last
+        → text_facts ignored b text lost b.past (moved_spans b.n reached.spans) ++ facts_out
+        ≡ text_facts ignored b text lost b.past
+        (moved_spans b.n (reached.spans ++ filter (is_told ignored) last))
+    facts_told last tells =
+        sym (facts_behind (filter (is_told ignored) last)
+        ∙ ap (λ (os : List FactData). text_facts ignored b text lost b.past (moved_spans b.n reached.spans) ++ os)
+        (tells.facts (event_place b.read b.n text) (event_time b.n text) lost
+        (b.past ++ past_in lost (moved_spans b.n reached.spans)) b.n))
 
 -- ---- those of any end
 
@@ -256,14 +257,14 @@ module _ (profile : List DeviceParts) (front : List Event) (under_way : IsUnderW
 
 -- The first fact of the spans of such events is the one that is out.
 module _ (ignored : Option (List ℕ)) (under : List DeviceParts) (place : ℕ → Place) (times : ℕ → Option (List ℕ))
-    (before : List PastData) (m n : ℕ) (front : List Event) (under_way : IsUnderWay under front) where
+    (lost : ℕ → List Event → List PastData) (before : List PastData) (m n : ℕ) (front : List Event) (under_way : IsUnderWay under front) where
   -- the facts of an other with this address, in place of some
   abbrev other_in : ℕ → Option ℕ → List FactData → List FactData
   other_in k addr facts = other_or place times (m + k) addr facts
 
   abbrev HasLeft : List Span → Option ℕ → Type 0
   HasLeft others addr = (left : List FactData)
-      × (span_facts ignored place times before (moved_spans m others) ≡ other_in n addr [] ++ left)
+      × (span_facts ignored place times lost before (moved_spans m others) ≡ other_in n addr [] ++ left)
 
   is_first : (k addr : ℕ) (found : Option ℕ) (facts rest : List FactData) → k ≡ n → found ≡ Some addr
       → other_in k found facts ++ rest ≡ other_in n (Some addr) [] ++ rest
@@ -278,19 +279,19 @@ module _ (ignored : Option (List ℕ)) (under : List DeviceParts) (place : ℕ �
 
   left_of : (more : List Event) (others : List Span) (addr : Option ℕ) → SpansFrom under n (front ++ more) others
       → other_address ignored front ≡ addr → HasLeft others addr
-  left_of more others None reads is = (span_facts ignored place times before (moved_spans m others), refl)
+  left_of more others None reads is = (span_facts ignored place times lost before (moved_spans m others), refl)
   left_of more [] (Some addr) reads is =
       let none : None ≡ Some addr = sym (ap (other_address ignored) (no_front front more reads)) ∙ is in
       absurd (cc none)
   left_of more (ReadSpan k events t ∷ others) (Some addr) reads is =
-      let rest = span_facts ignored place times (before ++ Said t ∷ []) (moved_spans m others) in (
+      let rest = span_facts ignored place times lost (before ++ Said t ∷ []) (moved_spans m others) in (
         rest,
         is_first k addr (other_address ignored events)
             (packet_facts before place (times (m + k)) (m + k) events t) rest reads.0
             (address_of addr events is (goes_on under front under_way n more (ReadSpan k events t) others reads)),
       )
   left_of more (RefusedSpan k events event refusal ∷ others) (Some addr) reads is =
-      let rest = span_facts ignored place times (before ++ lost events event refusal.reason) (moved_spans m others) in (
+      let rest = span_facts ignored place times lost (before ++ lost (m + k) events) (moved_spans m others) in (
         rest,
         is_first k addr (other_address ignored (events ++ event ∷ []))
             (refused_span place times before (m + k) events (Some event) refusal ∷ []) rest reads.0
@@ -298,7 +299,7 @@ module _ (ignored : Option (List ℕ)) (under : List DeviceParts) (place : ℕ �
             (goes_on under front under_way n more (RefusedSpan k events event refusal) others reads)),
       )
   left_of more (TruncatedSpan k events refusal ∷ others) (Some addr) reads is =
-      let rest = span_facts ignored place times before (moved_spans m others) in (
+      let rest = span_facts ignored place times lost before (moved_spans m others) in (
         rest,
         is_first k addr (other_address ignored events)
             (refused_span place times before (m + k) events None refusal ∷ []) rest reads.0
@@ -312,17 +313,19 @@ pub record LeadsToMore (ignored : Option (List ℕ)) (reached : Reached)
     (rest : List Event) : Type 0 where
   pub others : List Span
   pub spans : Spans reached.profile (reached.events ++ rest) (reached.spans ++ others)
-  pub left : (place : ℕ → Place) (times : ℕ → Option (List ℕ)) (before : List PastData) (m : ℕ)
-      → (left : List FactData) × (span_facts ignored place times before (moved_spans m others)
+  pub left : (place : ℕ → Place) (times : ℕ → Option (List ℕ)) (lost : ℕ → List Event → List PastData)
+      (before : List PastData) (m : ℕ)
+      → (left : List FactData) × (span_facts ignored place times lost before (moved_spans m others)
       ≡ open_facts ignored place times m reached.standing ++ left)
 
 module _ (ignored : Option (List ℕ)) (reached : Reached) (rest : List Event)
     (leads : LeadsOn reached) (some : HaveSpans reached.profile)
     (under_way : (n : ℕ) (events : List Event) → reached.standing ≡ Open n events
     → IsUnderWay reached.profile events) where
-  abbrev HasLeftAt : Standing → List Span → (ℕ → Place) → (ℕ → Option (List ℕ)) → List PastData → ℕ → Type 0
-  HasLeftAt standing others place times before m = (left : List FactData)
-      × (span_facts ignored place times before (moved_spans m others)
+  abbrev HasLeftAt : Standing → List Span → (ℕ → Place) → (ℕ → Option (List ℕ)) → (ℕ → List Event → List PastData)
+      → List PastData → ℕ → Type 0
+  HasLeftAt standing others place times lost before m = (left : List FactData)
+      × (span_facts ignored place times lost before (moved_spans m others)
       ≡ open_facts ignored place times m standing ++ left)
 
   -- nothing is out
@@ -334,8 +337,8 @@ module _ (ignored : Option (List ℕ)) (reached : Reached) (rest : List Event)
   none_out standing same none follows = record {
     others = follows.0;
     spans = follows.1;
-    left = λ place times before m.
-        let facts = span_facts ignored place times before (moved_spans m follows.0) in (
+    left = λ place times lost before m.
+        let facts = span_facts ignored place times lost before (moved_spans m follows.0) in (
           facts,
           ap (λ (os : List FactData). os ++ facts) (sym (ap (open_facts ignored place times m) same
               ∙ none place times m)),
@@ -350,9 +353,9 @@ module _ (ignored : Option (List ℕ)) (reached : Reached) (rest : List Event)
         others = found.0;
         spans = leads.leads rest found.0
             (subst (λ (s : Standing). SpansBehind reached.profile s rest found.0) (sym same) found.1);
-        left = λ place times before m.
-            subst (λ (s : Standing). HasLeftAt s found.0 place times before m) (sym same)
-            (left_of ignored reached.profile place times before m n events (under_way n events same) rest found.0
+        left = λ place times lost before m.
+            subst (λ (s : Standing). HasLeftAt s found.0 place times lost before m) (sym same)
+            (left_of ignored reached.profile place times lost before m n events (under_way n events same) rest found.0
             (other_address ignored events) found.1 refl);
       }
   leads_on (Held n refusal) same follows = none_out (Held n refusal) same (λ place times m. refl) follows

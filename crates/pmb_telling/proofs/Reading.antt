@@ -11,6 +11,7 @@ use Rattle.pmb_command.specs.Parts.{DeviceParts}
 use Rattle.pmb_io.specs.Tally.{IsTallyOf}
 use Rattle.pmb_io.specs.declared.tally.Tally.{Tally}
 use Rattle.pmb_scan.specs.declared.after_bad_token.AfterBadToken.{AfterBadToken}
+use Rattle.pmb_unknown_start.specs.Past.{PastData}
 use Rattle.pmb_telling.specs.declared.engine.Teller.{Teller}
 use Rattle.pmb_telling.specs.Kept.{WritesKept}
 use Rattle.pmb_telling.specs.SoFar.{ReadsSoFar}
@@ -21,6 +22,7 @@ use Rattle.pmb_telling.specs.machine.Standing.{longer_line, teller_choice, telle
 use Rattle.pmb_telling.proofs.MetWords.{TimesStay, has_met, met, met_reads, met_time, met_told, met_whole, met_word}
 use Rattle.pmb_telling.proofs.Leading.{leads_first, writes_told}
 use Rattle.pmb_telling.proofs.Facts.{counts_moved, lines_append}
+use Rattle.pmb_fact_stream.proofs.Losing.{past_moved}
 use Rattle.pmb_telling.proofs.OpenOthers.{TellsOpen, facts_behind, facts_out, facts_told}
 use Rattle.pmb_telling.proofs.Words.{no_lf_append, solid_no_lf}
 use Rattle.pmb_json_objects.specs.Counts.{CountsData}
@@ -33,7 +35,8 @@ use Rattle.pmb_spans.specs.Spans.{Span, SpansFrom, moved_spans}
 use Rattle.pmb_keeper.specs.Setting.{Setting}
 use Rattle.pmb_fact_stream.specs.declared.kept_stream.KeptStream.{KeptStream}
 use Rattle.pmb_fact_stream.specs.declared.stream.Stream.{Stream}
-use Rattle.pmb_fact_stream.specs.Before.{Before, at_first, with_reached}
+use Rattle.pmb_fact_stream.specs.Before.{Before, at_first, past_of, with_reached}
+use Rattle.pmb_fact_stream.specs.Lost.{lost_in}
 use Rattle.pmb_fact_stream.specs.Choice.{ChoiceData}
 use Rattle.pmb_fact_stream.specs.Others.{is_told, is_untold}
 use Rattle.pmb_fact_stream.specs.Spans.{after_spans, event_place, event_time, past_in}
@@ -87,7 +90,7 @@ told_first Keeps keeper b stream profile same begins = record {
     same = record { choice = refl; profile = refl };
     at = subst (λ (p : List DeviceParts). StreamAt other stream (at_start p)) same starts;
     time = starts.times.time.time;
-    told = λ more. told_none (stream_choice stream) (stream_profile stream) _;
+    told = λ more later. told_none (stream_choice stream) (stream_profile stream) _;
   };
 }
 
@@ -223,19 +226,24 @@ module _ {K : Type 0} (Keeps : K → Setting → List FactData → Type 0) (choi
 
   -- ---- the bytes end
 
-  -- the facts that were told where nothing follows
-  abbrev pub told_so_far : Reached → List FactData
-  told_so_far there =
-      text_facts choice.ignored b (there.text ++ []) b.past (moved_spans b.n there.spans)
+  -- what is lost at refusals where these events follow
+  abbrev pub lost_there : Reached → List Event → ℕ → List Event → List PastData
+  lost_there there later = lost_in there.profile b.n (there.events ++ later)
+
+  -- .. and the facts that were told, where no text follows
+  abbrev pub told_so_far : Reached → List Event → List FactData
+  told_so_far there later =
+      text_facts choice.ignored b (there.text ++ []) (lost_there there later) b.past (moved_spans b.n there.spans)
       ++ facts_out choice.ignored b there (there.text ++ [])
 
   -- Bytes that spell events: after the lines that were told come those that are left of the other
   -- spans, and of the end.
-  pub reads_on : (there : Reached) (events : List Event) (others : List Span) (left : List FactData)
-      (own said : List ℕ) → there.text ≡ used
-      → own ≡ fact_lines choice profile (told_so_far there) → Spells used events
-      → SpansFrom profile b.n events (moved_spans b.n (there.spans ++ others))
-      → text_facts choice.ignored b there.text (b.past ++ past_in there.spans) (moved_spans b.n others)
+  pub reads_on : (there : Reached) (later : List Event) (others : List Span) (left : List FactData)
+      (own said : List ℕ) → there.text ≡ used → there.profile ≡ profile
+      → own ≡ fact_lines choice profile (told_so_far there later) → Spells used (there.events ++ later)
+      → SpansFrom profile b.n (there.events ++ later) (moved_spans b.n (there.spans ++ others))
+      → text_facts choice.ignored b there.text (lost_there there later)
+      (b.past ++ past_in (lost_there there later) (moved_spans b.n there.spans)) (moved_spans b.n others)
       ≡ facts_out choice.ignored b there there.text ++ left
       → said ≡ fact_lines choice profile left
       ++ last_lines choice profile (after_spans choice.ignored b.counts (there.spans ++ others))
@@ -243,33 +251,36 @@ module _ {K : Type 0} (Keeps : K → Setting → List FactData → Type 0) (choi
       (after_spans choice.ignored b.counts (there.spans ++ others))
       × (own ++ said ≡ fact_lines choice profile facts
       ++ last_lines choice profile (after_spans choice.ignored b.counts (there.spans ++ others)))
-      × (told_so_far there ++ left ≡ facts)
-  reads_on there events others left own said text_is told spells reads left_is said_are =
+      × (told_so_far there later ++ left ≡ facts)
+  reads_on there later others left own said text_is same told spells reads left_is said_are =
       -- all spans, those told and the others, with their facts and counts
       let spans = moved_spans b.n (there.spans ++ others) in
       let counts = after_spans choice.ignored b.counts (there.spans ++ others) in
-      let facts = text_facts choice.ignored b there.text b.past spans in
-      let first = text_facts choice.ignored b there.text b.past (moved_spans b.n there.spans) in
+      let lost = lost_there there later in
+      let facts = text_facts choice.ignored b there.text lost b.past spans in
+      let first = text_facts choice.ignored b there.text lost b.past (moved_spans b.n there.spans) in
       let out = facts_out choice.ignored b there there.text in
       let last = last_lines choice profile counts in
       let lines = fact_lines choice profile in
       -- the lines that were told are those of the first spans, and of an other that is under way
-      let so_far : told_so_far there ≡ first ++ out =
-      ap (λ (l : List ℕ). text_facts choice.ignored b l b.past (moved_spans b.n there.spans)
+      let so_far : told_so_far there later ≡ first ++ out =
+      ap (λ (l : List ℕ). text_facts choice.ignored b l lost b.past (moved_spans b.n there.spans)
       ++ facts_out choice.ignored b there l) (append-nil there.text) in
       let own_is : own ≡ lines (first ++ out) = told ∙ ap lines so_far in
       -- with what is left they are all facts
       let all_are : (first ++ out) ++ left ≡ facts =
       append_assoc first out left
       ∙ (ap (λ (os : List FactData). first ++ os) (sym left_is)
-      ∙ sym (facts_behind choice.ignored b there there.text others)) in (
+      ∙ sym (facts_behind choice.ignored b there there.text lost others)) in (
         facts,
         record {
-          events = events;
+          events = there.events ++ later;
           spans = spans;
           spells = spells;
           reads = reads;
-          all = ap (λ (l : List ℕ). text_facts choice.ignored b l b.past spans) text_is;
+          all = ap (λ (l : List ℕ). text_facts choice.ignored b l lost b.past spans) text_is
+              ∙ ap (λ (p : List DeviceParts). text_facts choice.ignored b used (lost_in p b.n (there.events ++ later))
+              b.past spans) same;
           behind =
               sym (counts_moved choice.ignored b.counts b.n (there.spans ++ others));
         },
@@ -287,27 +298,40 @@ module _ {K : Type 0} (Keeps : K → Setting → List FactData → Type 0) (choi
       → (ends : EndsWords (StreamStands Keeps (kept_by words.begun keeper) new) words.reached after (put ++ more))
       → TellsOpen choice.ignored ends.there last → EndsWith ends.there last
       → said ≡ fact_lines choice profile
-      (text_facts choice.ignored b ends.there.text (b.past ++ past_in ends.there.spans)
+      (text_facts choice.ignored b ends.there.text (lost_in ends.there.profile b.n ends.there.events)
+      (b.past ++ past_of ends.there)
       (moved_spans b.n (filter (is_untold choice.ignored) last)))
       ++ last_lines choice profile (after_spans choice.ignored b.counts (ends.there.spans ++ last))
       → (facts : List FactData) × ReadsToEnd choice.ignored profile b used facts
       (after_spans choice.ignored b.counts (ends.there.spans ++ last))
       × (put ++ (more ++ said) ≡ fact_lines choice profile facts
       ++ last_lines choice profile (after_spans choice.ignored b.counts (ends.there.spans ++ last)))
-      × (told_so_far ends.there
-      ++ text_facts choice.ignored b ends.there.text (b.past ++ past_in ends.there.spans)
+      × (told_so_far ends.there []
+      ++ text_facts choice.ignored b ends.there.text (lost_in ends.there.profile b.n ends.there.events)
+      (b.past ++ past_of ends.there)
       (moved_spans b.n (filter (is_untold choice.ignored) last)) ≡ facts)
   reads_end more said after new last move ends tells end said_are =
       let there = ends.there in
       let told = ends.visited.told b words.begins in
-      let left = text_facts choice.ignored b there.text (b.past ++ past_in there.spans)
+      let at_end = λ (es : List Event) (past : List PastData). text_facts choice.ignored b there.text
+      (lost_in there.profile b.n es) (b.past ++ past) (moved_spans b.n (filter (is_untold choice.ignored) last)) in
+      let events : there.events ≡ there.events ++ [] = sym (append-nil there.events) in
+      let past = λ (es : List Event). past_in (lost_in there.profile b.n es) (moved_spans b.n there.spans) in
+      let left = text_facts choice.ignored b there.text (lost_in there.profile b.n there.events)
+      (b.past ++ past_of there)
       (moved_spans b.n (filter (is_untold choice.ignored) last)) in
-      let reads = reads_on there there.events last left (put ++ more) said (ends.same_text ∙ words.is_text)
-      (told_by there (put ++ more) new told []).lines
-      (subst (λ (l : List ℕ). Spells l there.events) words.is_text ends.spells)
-      (met_reads choice profile b there last move (under there (put ++ more) new told) end)
-      (sym (tells.rest (event_place b.read b.n there.text) (event_time b.n there.text)
-      (b.past ++ past_in there.spans) b.n)) said_are in
+      let left_is : left ≡ at_end (there.events ++ []) (past (there.events ++ [])) =
+      ap (at_end there.events) (sym (past_moved there.profile b.n there.events there.spans))
+      ∙ ap (λ (es : List Event). at_end es (past es)) events in
+      let reads = reads_on there [] last left (put ++ more) said (ends.same_text ∙ words.is_text)
+      (under there (put ++ more) new told) (told_by there (put ++ more) new told [] []).lines
+      (subst (λ (es : List Event). Spells used es) events
+      (subst (λ (l : List ℕ). Spells l there.events) words.is_text ends.spells))
+      (subst (λ (es : List Event). SpansFrom profile b.n es (moved_spans b.n (there.spans ++ last))) events
+      (met_reads choice profile b there last move (under there (put ++ more) new told) end))
+      (sym (tells.rest (event_place b.read b.n there.text) (event_time b.n there.text) (lost_there there [])
+      (b.past ++ past (there.events ++ [])) b.n)
+      ∙ ap (λ (os : List FactData). facts_out choice.ignored b there there.text ++ os) (sym left_is)) said_are in
       (reads.0, reads.1, sym (append_assoc put more said) ∙ reads.2, reads.3)
 
   -- they end in a word that is no token
@@ -321,7 +345,7 @@ module _ {K : Type 0} (Keeps : K → Setting → List FactData → Type 0) (choi
       × (used ≡ (begun words.reached.text).0 ++ open_word words.reached.text)
       × IsTold choice profile (KeptIn Keeps choice profile keeper) (KeptIn Keeps choice profile new.keeper)
       (put ++ more)
-      (front_facts choice.ignored b
+      (front_facts choice.ignored profile b
       (longer_line (met choice profile b words.reached (begun words.reached.text).0 last) []))
       × (stream_time new.stream ≡ open_time (begun words.reached.text).0 words.reached.events)
   ends_met more fault after new last move stay begun solid ends tells end =
@@ -339,7 +363,8 @@ module _ {K : Type 0} (Keeps : K → Setting → List FactData → Type 0) (choi
         },
         sym words.is_text ∙ front.1,
         met_told choice profile (IsTold choice profile (KeptIn Keeps choice profile keeper)
-            (KeptIn Keeps choice profile new.keeper) (put ++ more)) b there front.0 [] last tells front.1
+            (KeptIn Keeps choice profile new.keeper) (put ++ more)) b there front.0 [] last tells
+            (under there (put ++ more) new told) front.1
             (told_by there (put ++ more) new told),
         met_time choice profile there front.0 [] new.stream stay front.1 bad told.time,
       )
@@ -354,7 +379,8 @@ module _ {K : Type 0} (Keeps : K → Setting → List FactData → Type 0) (choi
       let there = words.reached in
       let told = words.told.told b words.begins in
       let spans = moved_spans b.n (there.spans ++ last) in (
-        text_facts choice.ignored b used b.past (filter (is_told choice.ignored) spans),
+        text_facts choice.ignored b used (lost_in profile b.n there.events) b.past
+            (filter (is_told choice.ignored) spans),
         record {
           events = there.events;
           spans = spans;
@@ -363,13 +389,21 @@ module _ {K : Type 0} (Keeps : K → Setting → List FactData → Type 0) (choi
           reads = met_reads choice profile b there last move (under there put now told) end;
           all = refl;
         },
-        (told_by there put now told []).lines
-            ∙ (ap (fact_lines choice profile) (facts_told choice.ignored b there (there.text ++ []) last tells)
-            ∙ (ap (λ (l : List ℕ). fact_lines choice profile (text_facts choice.ignored b l b.past
+        (told_by there put now told [] []).lines
+            ∙ (ap (fact_lines choice profile) (facts_told choice.ignored b there (there.text ++ [])
+            (lost_in there.profile b.n (there.events ++ [])) last tells)
+            ∙ (ap (λ (l : List ℕ). fact_lines choice profile (text_facts choice.ignored b l
+            (lost_in there.profile b.n (there.events ++ [])) b.past
             (moved_spans b.n (there.spans ++ filter (is_told choice.ignored) last))))
             (append-nil there.text ∙ words.is_text)
-            ∙ ap (λ (l : List Span). fact_lines choice profile (text_facts choice.ignored b used b.past l))
-            (met_whole choice profile b.n there last tells))),
+            ∙ ap (λ (l : List Span). fact_lines choice profile (text_facts choice.ignored b used
+            (lost_in there.profile b.n (there.events ++ [])) b.past l))
+            (met_whole choice profile b.n there last tells)
+            ∙ ap (λ (es : List Event). fact_lines choice profile (text_facts choice.ignored b used
+            (lost_in there.profile b.n es) b.past (filter (is_told choice.ignored) spans))) (append-nil there.events)
+            ∙ ap (λ (p : List DeviceParts). fact_lines choice profile (text_facts choice.ignored b used
+            (lost_in p b.n there.events) b.past (filter (is_told choice.ignored) spans)))
+            (under there put now told))),
       )
 
 -- all that is written where the bytes end

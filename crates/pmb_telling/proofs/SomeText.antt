@@ -11,6 +11,7 @@ use Rattle.pmb_io.specs.declared.tally.Tally.{Tally}
 use Rattle.pmb_spans.specs.Spans.{Span, SpansFrom}
 use Rattle.pmb_scan.specs.declared.after_bad_token.AfterBadToken.{AfterBadToken}
 use Rattle.pmb_scan.specs.declared.after_bad_token.AfterBadToken.TheVariants.{End, Continue}
+use Rattle.pmb_fact_stream.specs.Lost.{lost_in}
 use Rattle.pmb_fact_stream.specs.Before.{Before, at_first}
 use Rattle.pmb_fact_stream.specs.Choice.{ChoiceData}
 use Rattle.pmb_fact_stream.specs.Others.{is_told}
@@ -41,14 +42,14 @@ module _ (choice : ChoiceData) (profile : List DeviceParts) (some_spans : (n : �
   HasFactsBehind after b bad rest =
       (more : List BadLine) × (others : List FactData) × (counts : CountsData)
       × GoesOn after rest
-      (λ behind. FactsFrom choice.ignored profile after (behind_line choice.ignored b bad) behind more others counts)
-      ((more ≡ []) × (others ≡ []) × (counts ≡ (behind_line choice.ignored b bad).counts))
+      (λ behind. FactsFrom choice.ignored profile after (behind_line choice.ignored profile b bad) behind more others counts)
+      ((more ≡ []) × (others ≡ []) × (counts ≡ (behind_line choice.ignored profile b bad).counts))
 
   facts_behind : (after : AfterBadToken) (b : Before) (bad : BadLine) (rest : List ℕ)
-      → ((bytes : List ℕ) → length bytes < length rest → HasFacts Continue (behind_line choice.ignored b bad) bytes)
+      → ((bytes : List ℕ) → length bytes < length rest → HasFacts Continue (behind_line choice.ignored profile b bad) bytes)
       → HasFactsBehind after b bad rest
-  facts_behind End b bad rest later = ([], [], (behind_line choice.ignored b bad).counts, (refl, refl, refl))
-  facts_behind Continue b bad [] later = ([], [], (behind_line choice.ignored b bad).counts, (refl, refl, refl))
+  facts_behind End b bad rest later = ([], [], (behind_line choice.ignored profile b bad).counts, (refl, refl, refl))
+  facts_behind Continue b bad [] later = ([], [], (behind_line choice.ignored profile b bad).counts, (refl, refl, refl))
   facts_behind Continue b bad (lf ∷ bytes) later = later bytes (omega arith)
 
   -- bytes that spell events
@@ -57,7 +58,7 @@ module _ (choice : ChoiceData) (profile : List DeviceParts) (some_spans : (n : �
   all_read after b bytes events spells =
       let read = some_spans b.n events in (
         [],
-        text_facts choice.ignored b bytes b.past read.0,
+        text_facts choice.ignored b bytes (lost_in profile b.n events) b.past read.0,
         after_spans choice.ignored b.counts read.0,
         record { events = events; spans = read.0; spells = spells; reads = read.1; all = refl; behind = refl },
       )
@@ -86,9 +87,9 @@ module _ (choice : ChoiceData) (profile : List DeviceParts) (some_spans : (n : �
       omega (arith, ap length split, length-append (word.front ++ here.line) here.rest) in
       -- so it has facts, which come after those of the line
       let behind = facts_behind after b bad here.rest
-      (λ rest short. later (behind_line choice.ignored b bad) rest (omega (arith, short, long))) in (
+      (λ rest short. later (behind_line choice.ignored profile b bad) rest (omega (arith, short, long))) in (
         bad ∷ behind.0,
-        bad_line_facts choice.ignored b bad ++ behind.1,
+        bad_line_facts choice.ignored profile b bad ++ behind.1,
         behind.2,
         (
           here.rest,

@@ -229,7 +229,7 @@ module _ {K : Type 0} (Keeps : K → Setting → List FactData → Type 0) (choi
   goes_on = word_goes_on choice profile Keeps keeper b word rest at_hand used put old new split solid takes timed has
 
   -- more of it may come
-  pub waits : rest ≡ [] → (length (take 32 (open_word (behind_bytes choice.ignored b (goes_on).bad).read)) < 32)
+  pub waits : rest ≡ [] → (length (take 32 (open_word (behind_bytes choice.ignored profile b (goes_on).bad).read)) < 32)
       → InBadWord Keeps choice profile [] (kept_by new old.keeper) keeper b (used ++ at_hand) put
   waits none few =
       let all : word ≡ at_hand = sym (split ∙ (ap (λ (l : List ℕ). word ++ l) none ∙ append-nil word)) in
@@ -259,8 +259,8 @@ module _ {K : Type 0} (Keeps : K → Setting → List FactData → Type 0) (choi
 
   -- or no more of it is told
   pub is_behind : (front_word rest ≡ []) ⊎
-      (32 ≤ length (take 32 (open_word (behind_bytes choice.ignored b has.bad).read)) + length word)
-      → (rest ≢ []) ⊎ (32 ≤ length (take 32 (open_word (behind_bytes choice.ignored b (goes_on).bad).read)))
+      (32 ≤ length (take 32 (open_word (behind_bytes choice.ignored profile b has.bad).read)) + length word)
+      → (rest ≢ []) ⊎ (32 ≤ length (take 32 (open_word (behind_bytes choice.ignored profile b (goes_on).bad).read)))
       → BehindBadWord Keeps choice profile rest (kept_by new old.keeper) keeper b (used ++ word) put
   is_behind stops (inr full) = record {
     word = goes_on;
@@ -308,14 +308,14 @@ module _ {K : Type 0} (Keeps : K → Setting → List FactData → Type 0) (choi
     -- its fact is out, and its line is dropped
     pub drops_line : (said : List ℕ) (new : KeptStream K)
         → said ≡ fact_lines choice profile
-        (open_word_fact (stream_time old.stream) (behind_bytes choice.ignored behind.b behind.holds.word.bad) ∷ [])
+        (open_word_fact (stream_time old.stream) (behind_bytes choice.ignored profile behind.b behind.holds.word.bad) ∷ [])
         → KeepsOn (KeptIn Keeps choice profile old.keeper) (KeptIn Keeps choice profile new.keeper)
-        (open_word_fact (stream_time old.stream) (behind_bytes choice.ignored behind.b behind.holds.word.bad) ∷ [])
-        → StreamKnows (behind_fact choice.ignored behind.b behind.holds.word.bad) new.stream
+        (open_word_fact (stream_time old.stream) (behind_bytes choice.ignored profile behind.b behind.holds.word.bad) ∷ [])
+        → StreamKnows (behind_fact choice.ignored profile behind.b behind.holds.word.bad) new.stream
         → Behind Keeps choice profile after first (InBadLine Keeps choice profile rest new) bytes (text ++ said)
     drops_line said new said_are kept knows =
         let has = behind.holds.word in
-        let word = open_word_fact (stream_time old.stream) (behind_bytes choice.ignored behind.b has.bad) in
+        let word = open_word_fact (stream_time old.stream) (behind_bytes choice.ignored profile behind.b has.bad) in
         behind_put Keeps choice profile after first _ (InBadLine Keeps choice profile rest new) bytes text said behind
         (record {
           bad = has.bad;
@@ -338,12 +338,12 @@ module _ {K : Type 0} (Keeps : K → Setting → List FactData → Type 0) (choi
     -- or reading ends there, whatever follows
     pub stops_at : (last : K) (tail said : List ℕ) (tally : Tally) → after ≡ End
         → said ≡ last_word_lines choice profile (stream_time old.stream)
-        (behind_bytes choice.ignored behind.b behind.holds.word.bad)
-        → IsTallyOf (behind_fact choice.ignored behind.b behind.holds.word.bad).counts.packets
-        ((behind_fact choice.ignored behind.b behind.holds.word.bad).counts.refusals +
-        (behind_fact choice.ignored behind.b behind.holds.word.bad).counts.bad_tokens) tally
+        (behind_bytes choice.ignored profile behind.b behind.holds.word.bad)
+        → IsTallyOf (behind_fact choice.ignored profile behind.b behind.holds.word.bad).counts.packets
+        ((behind_fact choice.ignored profile behind.b behind.holds.word.bad).counts.refusals +
+        (behind_fact choice.ignored profile behind.b behind.holds.word.bad).counts.bad_tokens) tally
         → KeepsOn (KeptIn Keeps choice profile old.keeper) (KeptIn Keeps choice profile last)
-        (open_word_fact (stream_time old.stream) (behind_bytes choice.ignored behind.b behind.holds.word.bad) ∷ [])
+        (open_word_fact (stream_time old.stream) (behind_bytes choice.ignored profile behind.b behind.holds.word.bad) ∷ [])
         → WritesKept (KeepsOn (KeptIn Keeps choice profile first) (KeptIn Keeps choice profile last)) choice profile
         after
         ((bytes ++ rest) ++ tail) (text ++ said) tally
@@ -369,17 +369,17 @@ module _ {K : Type 0} (Keeps : K → Setting → List FactData → Type 0) (choi
         told_line (has.told s.line).lines said_are) tallied
         (keeps_both (At first) (At behind.keeper) (At last) behind.facts _ behind.kept
         (keeps_with_word choice profile (At behind.keeper) (At old.keeper) (At last) behind.b bad s.line
-        (open_word_fact (stream_time old.stream) (behind_bytes choice.ignored behind.b bad)) (has.told s.line).kept kept
+        (open_word_fact (stream_time old.stream) (behind_bytes choice.ignored profile behind.b bad)) (has.told s.line).kept kept
         (word_is choice profile behind.b bad s.line (stream_time old.stream) there has.time told_line))))
 
     pub stops_told : (last : K) (said : List ℕ) (tally : Tally) → after ≡ End
         → said ≡ last_word_lines choice profile (stream_time old.stream)
-        (behind_bytes choice.ignored behind.b behind.holds.word.bad)
-        → IsTallyOf (behind_fact choice.ignored behind.b behind.holds.word.bad).counts.packets
-        ((behind_fact choice.ignored behind.b behind.holds.word.bad).counts.refusals +
-        (behind_fact choice.ignored behind.b behind.holds.word.bad).counts.bad_tokens) tally
+        (behind_bytes choice.ignored profile behind.b behind.holds.word.bad)
+        → IsTallyOf (behind_fact choice.ignored profile behind.b behind.holds.word.bad).counts.packets
+        ((behind_fact choice.ignored profile behind.b behind.holds.word.bad).counts.refusals +
+        (behind_fact choice.ignored profile behind.b behind.holds.word.bad).counts.bad_tokens) tally
         → KeepsOn (KeptIn Keeps choice profile old.keeper) (KeptIn Keeps choice profile last)
-        (open_word_fact (stream_time old.stream) (behind_bytes choice.ignored behind.b behind.holds.word.bad) ∷ [])
+        (open_word_fact (stream_time old.stream) (behind_bytes choice.ignored profile behind.b behind.holds.word.bad) ∷ [])
         → StopsKept (KeepsOn (KeptIn Keeps choice profile first) (KeptIn Keeps choice profile last)) choice profile
         after
         (bytes ++ rest) (text ++ said) tally
@@ -401,13 +401,13 @@ module _ {K : Type 0} (Keeps : K → Setting → List FactData → Type 0) (choi
         (said : List ℕ) (tally : Tally) → time ≡ open_time bad.front bad.events → behind.used ≡ bad.front ++ bad.line
         → IsBadLine choice.ignored profile behind.b (longer_line bad []) → front_word bad.line ≡ bad.line
         → IsTold choice profile (KeptIn Keeps choice profile behind.keeper) (KeptIn Keeps choice profile now) behind.put
-        (front_facts choice.ignored behind.b (longer_line bad []))
-        → said ≡ last_word_lines choice profile time (behind_bytes choice.ignored behind.b bad)
-        → IsTallyOf (behind_fact choice.ignored behind.b bad).counts.packets
-        ((behind_fact choice.ignored behind.b bad).counts.refusals
-        + (behind_fact choice.ignored behind.b bad).counts.bad_tokens) tally
+        (front_facts choice.ignored profile behind.b (longer_line bad []))
+        → said ≡ last_word_lines choice profile time (behind_bytes choice.ignored profile behind.b bad)
+        → IsTallyOf (behind_fact choice.ignored profile behind.b bad).counts.packets
+        ((behind_fact choice.ignored profile behind.b bad).counts.refusals
+        + (behind_fact choice.ignored profile behind.b bad).counts.bad_tokens) tally
         → KeepsOn (KeptIn Keeps choice profile now) (KeptIn Keeps choice profile last)
-        (open_word_fact time (behind_bytes choice.ignored behind.b bad) ∷ [])
+        (open_word_fact time (behind_bytes choice.ignored profile behind.b bad) ∷ [])
         → WritesKept (KeepsOn (KeptIn Keeps choice profile first) (KeptIn Keeps choice profile last)) choice profile
         after
         bytes (text ++ said) tally
@@ -426,7 +426,7 @@ module _ {K : Type 0} (Keeps : K → Setting → List FactData → Type 0) (choi
         told.lines said_are) tallied
         (keeps_both (At first) (At behind.keeper) (At last) behind.facts _ behind.kept
         (keeps_with_word choice profile (At behind.keeper) (At now) (At last) behind.b bad []
-        (open_word_fact time (behind_bytes choice.ignored behind.b bad)) told.kept kept
+        (open_word_fact time (behind_bytes choice.ignored profile behind.b bad)) told.kept kept
         (word_is choice profile behind.b bad [] time stands timed told_line))))
 
     -- in the rest of its line
@@ -434,11 +434,11 @@ module _ {K : Type 0} (Keeps : K → Setting → List FactData → Type 0) (choi
         → IsBadLine choice.ignored profile behind.b (longer_line bad [])
         → IsTold choice profile (KeptIn Keeps choice profile behind.keeper) (KeptIn Keeps choice profile last)
         behind.put
-        (bad_line_facts choice.ignored behind.b (longer_line bad []))
-        → said ≡ last_lines choice profile (behind_fact choice.ignored behind.b bad).counts
-        → IsTallyOf (behind_fact choice.ignored behind.b bad).counts.packets
-        ((behind_fact choice.ignored behind.b bad).counts.refusals
-        + (behind_fact choice.ignored behind.b bad).counts.bad_tokens) tally
+        (bad_line_facts choice.ignored profile behind.b (longer_line bad []))
+        → said ≡ last_lines choice profile (behind_fact choice.ignored profile behind.b bad).counts
+        → IsTallyOf (behind_fact choice.ignored profile behind.b bad).counts.packets
+        ((behind_fact choice.ignored profile behind.b bad).counts.refusals
+        + (behind_fact choice.ignored profile behind.b bad).counts.bad_tokens) tally
         → WritesKept (KeepsOn (KeptIn Keeps choice profile first) (KeptIn Keeps choice profile last)) choice profile
         after
         bytes (text ++ said) tally
@@ -451,7 +451,7 @@ module _ {K : Type 0} (Keeps : K → Setting → List FactData → Type 0) (choi
         (append-nil behind.used ∙ (used_are ∙ ap (λ (l : List ℕ). bad.front ++ l)
         (sym (append-nil bad.line) ∙ sym (append-nil (bad.line ++ [])))))
         is_bad tt (inr refl) (lines_with_counts choice profile behind.b bad [] behind.put said
-        (behind_fact choice.ignored behind.b bad).counts told.lines said_are) tallied
+        (behind_fact choice.ignored profile behind.b bad).counts told.lines said_are) tallied
         (keeps_both (At first) (At behind.keeper) (At last) behind.facts _ behind.kept told.kept))
 
 -- ---- a line ends
@@ -506,23 +506,23 @@ begins_anew Keeps choice profile after first given text at_hand count old mid ne
     -- all bytes that were read end after the LF, between words
     let rest_is : take (count + 1) at_hand ≡ line ++ 10 ∷ [] = front_is in
     let read_is : ((b.read ++ bad.front) ++ bad.line) ++ take (count + 1) at_hand
-    ≡ (behind_line choice.ignored b longer).read =
+    ≡ (behind_line choice.ignored profile b longer).read =
     ap (λ (l : List ℕ). ((b.read ++ bad.front) ++ bad.line) ++ l) rest_is
     ∙ (sym (append_assoc ((b.read ++ bad.front) ++ bad.line) line (10 ∷ []))
     ∙ ap (λ (l : List ℕ). l ++ 10 ∷ []) (append_assoc (b.read ++ bad.front) bad.line line)) in
-    let between : EndsBetween (behind_line choice.ignored b longer).read =
+    let between : EndsBetween (behind_line choice.ignored profile b longer).read =
     lines ((b.read ++ bad.front) ++ (bad.line ++ line)) in
     -- the stream knows of them, is cleared there, and knows that the line was dropped
-    let there : Before = record (behind_fact choice.ignored b longer) {
-      read = (behind_line choice.ignored b longer).read;
+    let there : Before = record (behind_fact choice.ignored profile b longer) {
+      read = (behind_line choice.ignored profile b longer).read;
     } in
     let knows : StreamKnows there mid =
-    knows_as _ there.read _ _ _ _ _ mid read_is refl refl (takes (behind_fact choice.ignored b bad) has.knows) in
+    knows_as _ there.read _ _ _ _ _ mid read_is refl refl (takes (behind_fact choice.ignored profile b bad) has.knows) in
     record {
       -- reading begins anew with nothing used and nothing written
-      b = behind_line choice.ignored b longer;
+      b = behind_line choice.ignored profile b longer;
       bads = behind.bads ++ longer ∷ [];
-      facts = behind.facts ++ bad_line_facts choice.ignored b longer;
+      facts = behind.facts ++ bad_line_facts choice.ignored profile b longer;
       leads = leads_line choice profile after b behind.bads behind.facts longer goes behind.leads is_bad;
       between = between;
       first = inr goes;
@@ -531,18 +531,18 @@ begins_anew Keeps choice profile after first given text at_hand count old mid ne
       bytes_are = ap (λ (l : List ℕ). l ++ take (count + 1) at_hand)
           (behind.bytes_are ∙ ap (λ (l : List ℕ). b.read ++ l) has.is_text)
           ∙ (ap (λ (l : List ℕ). l ++ take (count + 1) at_hand) (sym (append_assoc b.read bad.front bad.line))
-          ∙ (read_is ∙ sym (append-nil (behind_line choice.ignored b longer).read)));
+          ∙ (read_is ∙ sym (append-nil (behind_line choice.ignored profile b longer).read)));
       text_is = behind.text_is
           ∙ (ap (λ (l : List ℕ). fact_lines choice profile behind.facts ++ l)
           (has.told [] line (10 ∷ tail) split refl).lines
-          ∙ (sym (lines_append choice profile behind.facts (bad_line_facts choice.ignored b longer))
+          ∙ (sym (lines_append choice profile behind.facts (bad_line_facts choice.ignored profile b longer))
           ∙ sym (append-nil (fact_lines choice profile
-          (behind.facts ++ bad_line_facts choice.ignored b longer)))));
+          (behind.facts ++ bad_line_facts choice.ignored profile b longer)))));
       keeper = old.keeper;
       kept = keeps_both (KeptIn Keeps choice profile first) (KeptIn Keeps choice profile behind.keeper)
-          (KeptIn Keeps choice profile old.keeper) behind.facts (bad_line_facts choice.ignored b longer) behind.kept
+          (KeptIn Keeps choice profile old.keeper) behind.facts (bad_line_facts choice.ignored profile b longer) behind.kept
           (has.told [] line (10 ∷ tail) split refl).kept;
-      holds = words_begin Keeps old.keeper choice profile scan new (behind_line choice.ignored b longer) same_choice
+      holds = words_begin Keeps old.keeper choice profile scan new (behind_line choice.ignored profile b longer) same_choice
           same_profile
           (begin there knows between) scans;
     }

@@ -9,6 +9,7 @@ use Rattle.pmb_spans.specs.Spans.{Span, SpansFrom}
 use Rattle.pmb_fact_stream.specs.Before.{Before, at_first}
 use Rattle.pmb_fact_stream.specs.Choice.{ChoiceData}
 use Rattle.pmb_fact_stream.specs.Lines.{fact_lines}
+use Rattle.pmb_fact_stream.specs.Lost.{lost_in}
 use Rattle.pmb_fact_stream.specs.Others.{is_told}
 use Rattle.pmb_telling.specs.Text.{BadLine, GoesOn, IsBadLine, IsBehindLine, bad_line_facts, behind_line, front_facts}
 use Rattle.pmb_telling.specs.Text.{text_facts}
@@ -23,14 +24,14 @@ StaysBad bad rest = rest ≡ [] → (others : List ℕ)
     → FirstBadWord (bad.front ++ (bad.line ++ others)) bad.events (length bad.front)
 
 module _ (ignored : Option (List ℕ)) where
-  -- A bad word that has not ended at the end of the bytes waits until 32 of its bytes have come;
-  -- then, or where it has ended, its fact is out.
-  abbrev pub IsOutOf : Before → BadLine → List ℕ → List FactData → Type 0
-  IsOutOf b bad rest facts =
-      (IsUnderWay bad.line rest × (facts ≡ front_facts ignored b bad))
-      ⊎ ((IsUnderWay bad.line rest → ⊥) × (facts ≡ bad_line_facts ignored b bad))
-
   module _ (profile : List DeviceParts) where
+    -- A bad word that has not ended at the end of the bytes waits until 32 of its bytes have come;
+    -- then, or where it has ended, its fact is out.
+    abbrev pub IsOutOf : Before → BadLine → List ℕ → List FactData → Type 0
+    IsOutOf b bad rest facts =
+        (IsUnderWay bad.line rest × (facts ≡ front_facts ignored profile b bad))
+        ⊎ ((IsUnderWay bad.line rest → ⊥) × (facts ≡ bad_line_facts ignored profile b bad))
+
     -- Bytes that begin some text that spells events: the facts of the packets and refusals of the
     -- words that have ended, and of an other whose address came.
     pub record ReadsSoFar (b : Before) (bytes : List ℕ) (facts : List FactData) : Type 0 where
@@ -39,7 +40,8 @@ module _ (ignored : Option (List ℕ)) where
       pub begins : BeginsText bytes
       pub spells : EndedWordsSpell bytes events
       pub reads : SpansFrom profile b.n events spans
-      pub all : facts ≡ text_facts ignored b bytes b.past (filter (is_told ignored) spans)
+      pub all : facts
+          ≡ text_facts ignored b bytes (lost_in profile b.n events) b.past (filter (is_told ignored) spans)
 
     -- The facts so far of bytes from there on, with these bad lines. Reading continues after bad
     -- lines, if that is wanted.
@@ -49,8 +51,8 @@ module _ (ignored : Option (List ℕ)) where
         (rest : List ℕ) × (bytes ≡ bad.front ++ bad.line ++ rest) × IsBehindLine rest × IsBadLine ignored profile b bad
         × StaysBad bad rest
         × GoesOn after rest
-        (λ behind. (others : List FactData) × (facts ≡ bad_line_facts ignored b bad ++ others)
-        × SoFarFrom after (behind_line ignored b bad) behind more others)
+        (λ behind. (others : List FactData) × (facts ≡ bad_line_facts ignored profile b bad ++ others)
+        × SoFarFrom after (behind_line ignored profile b bad) behind more others)
         ((more ≡ []) × IsOutOf b bad rest facts)
 
 -- the text so far

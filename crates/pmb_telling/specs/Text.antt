@@ -18,6 +18,7 @@ use Rattle.pmb_spans.specs.Spans.{Span, SpansFrom}
 use Rattle.pmb_fact_stream.specs.Before.{Before, at_first, drop_line}
 use Rattle.pmb_fact_stream.specs.Choice.{ChoiceData}
 use Rattle.pmb_fact_stream.specs.Lines.{fact_lines, last_lines}
+use Rattle.pmb_fact_stream.specs.Lost.{lost_in}
 use Rattle.pmb_fact_stream.specs.Others.{is_told}
 use Rattle.pmb_fact_stream.specs.Spans.{after_spans, bad_token_fact, event_place, event_time, past_in, span_facts}
 use Rattle.pmb_fact_stream.specs.UnderWay.{open_time}
@@ -33,21 +34,25 @@ pub record BadLine : Type 0 where
   pub spans : List Span
   pub line : List ℕ
 
+-- what went before it, in those bytes
+abbrev pub past_before : List DeviceParts → Before → BadLine → List PastData
+past_before profile b bad = past_in (lost_in profile b.n bad.events) bad.spans
+
 -- after those bytes, where the word stands, and these addresses are ignored
-abbrev pub at_word : Option (List ℕ) → Before → BadLine → Before
-at_word ignored b bad = record {
+abbrev pub at_word : Option (List ℕ) → List DeviceParts → Before → BadLine → Before
+at_word ignored profile b bad = record {
   read = b.read ++ bad.front;
   n = b.n + length bad.events;
-  past = b.past ++ past_in bad.spans;
+  past = b.past ++ past_before profile b bad;
   counts = after_spans ignored b.counts bad.spans;
 }
 
 -- after that line and its LF; what was dropped was no event, and nobody knows what it said
-abbrev pub behind_line : Option (List ℕ) → Before → BadLine → Before
-behind_line ignored b bad = drop_line (record {
+abbrev pub behind_line : Option (List ℕ) → List DeviceParts → Before → BadLine → Before
+behind_line ignored profile b bad = drop_line (record {
   read = b.read ++ bad.front ++ bad.line ++ character "\n" ∷ [];
   n = b.n + length bad.events;
-  past = b.past ++ past_in bad.spans;
+  past = b.past ++ past_before profile b bad;
   counts = after_bad_token (after_spans ignored b.counts bad.spans);
 })
 
@@ -79,24 +84,25 @@ word_fact b bad = bad_token_fact (word_head b bad) (front_word bad.line)
 module _ (ignored : Option (List ℕ)) where
   -- Those of spans of bytes that are read from there on, after what went before: each with the
   -- place and the time that the bytes tell.
-  abbrev pub text_facts : Before → List ℕ → List PastData → List Span → List FactData
+  abbrev pub text_facts : Before → List ℕ → (lost : ℕ → List Event → List PastData) → List PastData → List Span
+      → List FactData
   text_facts b bytes = span_facts ignored (event_place b.read b.n bytes) (event_time b.n bytes)
 
-  -- the facts of what stands before the word, and that of the word
-  abbrev pub front_facts : Before → BadLine → List FactData
-  front_facts b bad = text_facts b (bad.front ++ bad.line) b.past bad.spans
-
-  abbrev pub bad_line_facts : Before → BadLine → List FactData
-  bad_line_facts b bad = front_facts b bad ++ word_fact b bad ∷ []
-
   module _ (profile : List DeviceParts) where
+    -- the facts of what stands before the word, and that of the word
+    abbrev pub front_facts : Before → BadLine → List FactData
+    front_facts b bad = text_facts b (bad.front ++ bad.line) (lost_in profile b.n bad.events) b.past bad.spans
+
+    abbrev pub bad_line_facts : Before → BadLine → List FactData
+    bad_line_facts b bad = front_facts b bad ++ word_fact b bad ∷ []
+
     -- Bytes that spell events, read from there on to their end.
     pub record ReadsToEnd (b : Before) (bytes : List ℕ) (facts : List FactData) (counts : CountsData) : Type 0 where
       pub events : List Event
       pub spans : List Span
       pub spells : Spells bytes events
       pub reads : SpansFrom profile b.n events spans
-      pub all : facts ≡ text_facts b bytes b.past spans
+      pub all : facts ≡ text_facts b bytes (lost_in profile b.n events) b.past spans
       pub behind : counts ≡ after_spans ignored b.counts spans
 
     -- Bytes up to the first word that is no token, and the rest of its line, read from there on. A
@@ -116,8 +122,8 @@ module _ (ignored : Option (List ℕ)) where
         (rest : List ℕ) × (others : List FactData) × (bytes ≡ bad.front ++ bad.line ++ rest) × IsBehindLine rest
         × IsBadLine b bad
         × (facts ≡ bad_line_facts b bad ++ others)
-        × GoesOn after rest (λ behind. FactsFrom after (behind_line ignored b bad) behind more others counts)
-        ((more ≡ []) × (others ≡ []) × (counts ≡ (behind_line ignored b bad).counts))
+        × GoesOn after rest (λ behind. FactsFrom after (behind_line ignored profile b bad) behind more others counts)
+        ((more ≡ []) × (others ≡ []) × (counts ≡ (behind_line ignored profile b bad).counts))
 
 -- The text that is written for the bytes of a whole capture, the lines of its facts and the last ones,
 -- and the tally, in which a bad token counts as a refusal.

@@ -1,6 +1,7 @@
 //! Laws over the definitions alone.
 
 ghost use Rattle.std.specs.Prelude.{◌≡◌, ℕ, Option, List};
+ghost use Rattle.pmb_bus.specs.declared.event.Event.{Event};
 ghost use Rattle.pmb_command.specs.Bus.{IsBus};
 ghost use Rattle.pmb_command.specs.Parts.{DeviceParts};
 ghost use Rattle.pmb_facts.specs.Fact.{FactData};
@@ -10,6 +11,7 @@ ghost use Rattle.pmb_scan.specs.declared.after_bad_token.AfterBadToken.{AfterBad
 ghost use Rattle.pmb_spans.specs.Spans.{Span, moved_spans};
 ghost use Rattle.pmb_fact_stream.specs.Before.{at_first};
 ghost use Rattle.pmb_fact_stream.specs.Choice.{ChoiceData};
+ghost use Rattle.pmb_fact_stream.specs.Lost.{lost_in};
 ghost use Rattle.pmb_fact_stream.specs.Spans.{after_spans, past_in};
 ghost use Rattle.pmb_telling.specs.SoFar.{HasTold};
 ghost use Rattle.pmb_telling.specs.Text.{BadLine, FactsFrom, WritesTold};
@@ -18,10 +20,11 @@ pub use crate::capture_teller::tellers_have_told;
 use pmb_bus::laws::{each_text_is_read, one_bad_word, one_spelling, spelled_has_no_bad_word};
 use pmb_spans::laws::{each_list_has_spans, one_list_of_spans};
 
-/// Spans that are moved say the same, and count the same.
+/// Spans that are moved say the same, lose the same, and count the same.
 pub fn moved_spans_count_the_same()
     ensures counts { (ignored : Option (List ℕ)) (n : ℕ) (spans : List Span) (c : CountsData) → after_spans ignored c (moved_spans n spans) ≡ after_spans ignored c spans }
-    ensures past { (n : ℕ) (spans : List Span) → past_in (moved_spans n spans) ≡ past_in spans }
+    ensures past { (profile : List DeviceParts) (n : ℕ) (events : List Event) (spans : List Span)
+        → past_in (lost_in profile n events) (moved_spans n spans) ≡ past_in (lost_in profile 0 events) spans }
 {}
 
 /// The facts of bytes, and what is counted after them, are a function of the bytes, whichever addresses

@@ -1,7 +1,7 @@
 -- What a line tells: for the functions of `line.rt`, which take it apart, and the law
 -- `times_are_short`. What is told is a time, no line of more than 45 bytes tells one, and none that
 -- begins otherwise.
-use Rattle.std.proofs.Common.{◌≡◌, ◌≢◌, ℕ, zero, suc, ◌+◌, ◌<◌, ◌≤◌, ◌==◌, ◌&&◌, Bool, true, false, inl, inr, cond}
+use Rattle.std.proofs.Common.{◌≡◌, ◌≢◌, ℕ, zero, suc, ◌+◌, ◌<◌, ◌≤◌, ◌==◌, ◌&&◌, ◌||◌, Bool, true, false, inl, inr, cond}
 use Rattle.std.proofs.Common.{Option}
 use Rattle.std.proofs.Common.{Some, None, IfSome, List, [], ◌∷◌, ◌++◌, codes, count_by, get_or, length, refl, subst}
 use Rattle.std.proofs.Common.{sym, ap}
@@ -13,8 +13,8 @@ use Rattle.std.specs.Prelude.{nat_le}
 use Rattle.std.proofs.lemmas.Bool.{and_from, and_parts, cases_Bool, cases_eq, false≢true, leb-true, lt-leb, ne_eqb}
 use Rattle.std.proofs.lemmas.Bool.{or_left}
 use Rattle.std.proofs.lemmas.List.Sums.{count_by-le-length}
-use Rattle.pmb_times.specs.Line.{IsTime, before_unit, begins_as, comment_time, fits_mark, is_iso_time, is_seconds}
-use Rattle.pmb_times.specs.Line.{is_seconds_byte, is_time_byte, line_time, marked_time, time_if, time_with_unit}
+use Rattle.pmb_times.specs.Line.{IsTime, before_unit, begins_as, comment_time, fits_mark, is_iso_time, is_number, is_seconds}
+use Rattle.pmb_times.specs.Line.{is_seconds_byte, is_sign, is_time_byte, line_time, marked_time, time_if, time_with_unit}
 use Rattle.pmb_times.specs.Line.{without_return}
 
 -- ---- what a line is taken apart into
@@ -128,14 +128,36 @@ told_if true time facts =
       | inr long ↦ subst (λ (v : Bool). IfSome (cond v (Some time) None) IsTime) (sym long) tt
     ]
 
-pub seconds_are : (time : List ℕ) → is_seconds time ≡ true → (0 < length time) × (list_all is_time_byte time ≡ true)
-seconds_are time is =
+number_is : (time : List ℕ) → is_number time ≡ true → (0 < length time) × (list_all is_time_byte time ≡ true)
+number_is time is =
     let parts = and_parts (list_all is_seconds_byte time) _ is in
     let counts = and_parts _ _ parts.1 in
     let some : 1 ≤ count_by is_ascii_digit time = leb-true 1 (count_by is_ascii_digit time) counts.0 in (
       omega (arith, some, count_by-le-length is_ascii_digit time),
-      list_all_more is_seconds_byte is_time_byte (λ b seconds. or_left (is_seconds_byte b) _ seconds) time parts.0,
+      list_all_more is_seconds_byte is_time_byte (λ b number. or_left (is_seconds_byte b) _ number) time parts.0,
     )
+
+-- a sign is a byte of times
+sign_is : (b : ℕ) → is_sign b ≡ true → is_time_byte b ≡ true
+sign_is b is =
+    elim (cases_eq b 45) [
+      | inl minus ↦ ap is_time_byte minus
+      | inr other ↦ elim (cases_eq b 43) [
+        | inl plus ↦ ap is_time_byte plus
+        | inr none ↦ absurd (false≢true (sym (ap (λ (v : Bool). v || b == 43) (ne_eqb b 45 other) ∙ ne_eqb b 43 none) ∙ is))
+      ]
+    ]
+
+signed_is : (b : ℕ) (time : List ℕ) (sign : Bool) → is_sign b ≡ sign
+    → is_number (cond sign time (b ∷ time)) ≡ true
+    → (0 < length (b ∷ time)) × (list_all is_time_byte (b ∷ time) ≡ true)
+signed_is b time true sign is =
+    (omega arith, and_from (is_time_byte b) (list_all is_time_byte time) (sign_is b sign) (number_is time is).1)
+signed_is b time false sign is = number_is (b ∷ time) is
+
+pub seconds_are : (time : List ℕ) → is_seconds time ≡ true → (0 < length time) × (list_all is_time_byte time ≡ true)
+seconds_are [] is = absurd (false≢true is)
+seconds_are (b ∷ time) is = signed_is b time (is_sign b) refl is
 
 pub iso_is : (time : List ℕ) → is_iso_time time ≡ true → (0 < length time) × (list_all is_time_byte time ≡ true)
 iso_is [] is = absurd (false≢true is)

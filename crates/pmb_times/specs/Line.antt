@@ -16,12 +16,24 @@ is_point b = b == character "."
 abbrev pub is_seconds_byte : ℕ → Bool
 is_seconds_byte b = is_ascii_digit b || is_point b
 
--- a number of seconds: digits, at least one, with at most one point
-abbrev pub is_seconds : List ℕ → Bool
-is_seconds time = list_all is_seconds_byte time
-    && (nat_le 1 (count_by is_ascii_digit time) && nat_le (count_by is_point time) 1)
+-- a number: digits, at least one, with at most one point
+abbrev pub is_number : List ℕ → Bool
+is_number text = list_all is_seconds_byte text
+    && (nat_le 1 (count_by is_ascii_digit text) && nat_le (count_by is_point text) 1)
 
--- a byte that stands in an ISO 8601 time alone
+-- a number without the sign before it, if it has one
+abbrev pub is_sign : ℕ → Bool
+is_sign b = b == character "-" || b == character "+"
+
+abbrev pub without_sign : List ℕ → List ℕ
+without_sign [] = []
+without_sign (b ∷ text) = if is_sign b then text else b ∷ text
+
+-- a number of seconds, with a sign or without
+abbrev pub is_seconds : List ℕ → Bool
+is_seconds time = is_number (without_sign time)
+
+-- any other byte of an ISO 8601 time
 abbrev pub is_time_mark : ℕ → Bool
 is_time_mark b = b == character ":" || b == character "-" || b == character "+" || b == character "T"
     || b == character "Z"

@@ -7,7 +7,7 @@
 ghost use Rattle.std.specs.Prelude.{◌≡◌, IfSome};
 ghost use Rattle.std.specs.List.{list_all};
 ghost use Rattle.std.specs.Option.{option_map};
-ghost use Rattle.pmb_times.specs.Line.{IsTime, before_unit, begins_as, comment_time, fits_mark, is_iso_time, is_point, is_seconds, is_seconds_byte, is_time_byte, line_time, marked_time, time_if, without_return};
+ghost use Rattle.pmb_times.specs.Line.{IsTime, before_unit, begins_as, comment_time, fits_mark, is_iso_time, is_point, is_number, is_seconds_byte, is_seconds, is_time_byte, line_time, marked_time, time_if, without_return, without_sign};
 
 /// How many bytes a time has at most.
 pub const TIME: usize = 40;
@@ -36,9 +36,26 @@ fn is_time_byte(byte: u8) -> bool
     is_seconds_byte(byte) || matches!(byte, b':' | b'-' | b'+' | b'T' | b'Z')
 }
 
-/// Whether a text is digits, at least one, with at most one point.
+/// Whether a text is digits, at least one, with at most one point, and a sign before them or none.
 fn is_seconds(text: &[u8]) -> bool
     ensures { result ≡ is_seconds text.now }
+{
+    is_number(without_sign(text))
+}
+
+/// A number without its sign.
+fn without_sign(text: &[u8]) -> &[u8]
+    ensures { result.now ≡ without_sign text.now }
+{
+    match text {
+        [b'-' | b'+', number @ ..] => number,
+        _ => text,
+    }
+}
+
+/// Whether a text is digits, at least one, with at most one point.
+fn is_number(text: &[u8]) -> bool
+    ensures { result ≡ is_number text.now }
 {
     let mut digits: usize = 0;
     let mut points: usize = 0;

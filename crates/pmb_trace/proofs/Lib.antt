@@ -1,4 +1,5 @@
 pub mod Bytes
 pub mod Colons
+pub mod Ends
 pub mod Events
 pub mod Losses

@@ -1,6 +1,6 @@
 -- The fields of an event: words that begin with their name.
-use Rattle.std.specs.Prelude.{ℕ, Option, Some, None, List, [], ◌∷◌, codes, slice_index, ◌==◌, if◌then◌else◌}
-use Rattle.std.specs.Prelude.{is_some}
+use Rattle.std.specs.Prelude.{ℕ, Bool, Option, Some, None, List, [], ◌∷◌, ◌++◌, codes, slice_index, ◌==◌, if◌then◌else◌}
+use Rattle.std.specs.Prelude.{is_some, decimal, ◌-◌, ◌&&◌, nat_le, nat_lt}
 use Rattle.std.specs.Str.{bytes_eq}
 use Rattle.pmb_words.specs.Parts.{after}
 use Rattle.pmb_words.specs.Numbers.{byte_of, decimal_of, hexadecimal_of}
@@ -104,7 +104,7 @@ bytes_field word = bytes_behind (after (codes "[") word)
 
 -- ---- results
 
--- a number that may be below 0, as it is written, and its value where it is not
+-- a number that may be below 0, as it is told, and its value where it is not
 pub record Outcome : Type 0 where
   pub text : List ℕ
   pub value : Option ℕ
@@ -121,14 +121,24 @@ abbrev pub negative : List ℕ → Option (List ℕ) → Option Outcome
 negative text (Some digits) = minus text (decimal_of digits)
 negative text None = None
 
+-- trace-cmd and perf print a result of sixteen bits without its sign: 32,768 to 65,535 are below 0
+abbrev pub lacks_sign : ℕ → Bool
+lacks_sign number = nat_le 0x8000 number && nat_lt number 0x10000
+
+-- It is told with its sign, and any other number as it is written.
+abbrev pub with_sign : List ℕ → ℕ → Outcome
+with_sign text number =
+    if lacks_sign number then record { text = codes "-" ++ decimal (0x10000 - number); value = None } else
+    record { text = text; value = Some number }
+
 abbrev pub outcome : List ℕ → Option ℕ → Option Outcome
-outcome text (Some value) = Some (record { text = text; value = Some value })
+outcome text (Some number) = Some (with_sign text number)
 outcome text None = negative text (after (codes "-") text)
 
 abbrev pub outcome_text : Option (List ℕ) → Option Outcome
 outcome_text (Some text) = outcome text (decimal_of text)
 outcome_text None = None
 
--- `ret=2`, `res=-6`
+-- `ret=2`, `res=-6`, and `res=65530` for that
 abbrev pub outcome_field : List ℕ → List ℕ → Option Outcome
 outcome_field name word = outcome_text (after name word)

@@ -105,6 +105,40 @@ event_in front ([] ∷ rest) = event_in front rest
 event_in front ((byte ∷ word) ∷ rest) =
     event_at front rest (name_of (byte ∷ word)) (event_in (byte ∷ word) rest)
 
+-- ---- comments
+
+-- what stands before such a text, where that is the end of another
+abbrev pub before_end : List ℕ → List ℕ → Option (List ℕ)
+before_end end [] = None
+before_end end (byte ∷ text) =
+    if bytes_eq (byte ∷ text) end then Some [] else with_front byte (before_end end text)
+
+-- The tracer function_graph prints an event as a comment, `/* i2c_result: i2c-0 n=1 ret=1 */`, which ends its line.
+abbrev pub comment_end : List ℕ
+comment_end = codes " */"
+
+abbrev pub opens_comment : List ℕ → Bool
+opens_comment front = bytes_eq front (codes "/*")
+
+-- an event that opens a comment, or none, as its line ends with one or not; it has no field where only one is so
+abbrev pub as_closed : Bool → Bool → Event → Event
+as_closed true true e = e
+as_closed false false e = e
+as_closed true false e = record e { fields = [] }
+as_closed false true e = record e { fields = [] }
+
+abbrev pub if_closed : Bool → Option Event → Option Event
+if_closed closes (Some e) = Some (as_closed (opens_comment e.front) closes e)
+if_closed closes None = None
+
+-- the first event of a line, without the end of its comment
+abbrev pub event_before : Option (List ℕ) → List ℕ → Option Event
+event_before (Some text) line = if_closed true (event_in [] (pieces blank text))
+event_before None line = if_closed false (event_in [] (pieces blank line))
+
+abbrev pub event_of_line : List ℕ → Option Event
+event_of_line line = event_before (before_end comment_end line) line
+
 -- ---- lost events
 
 -- how many events were lost, as it is written, if a number is
@@ -217,7 +251,7 @@ unlost line =
     if is_some (after (codes "# tracer:") line) then Heading else
     if is_some (after (codes "#") line) then Nothing else
     if is_some (after (codes "cpus=") line) then Heading else
-    says (event_in [] (pieces blank line))
+    says (event_of_line line)
 
 -- a loss that the line tells, of its own or of the buffer's
 abbrev pub any_loss : List ℕ → Option Loss

@@ -1,10 +1,12 @@
 -- What the values of this crate's types hold, in the words of the definitions.
-use Rattle.std.specs.Prelude.{ℕ, true, false, Bool, Option, Some, None, List, decimal}
+use Rattle.std.specs.Prelude.{ℕ, true, false, Bool, Option, Some, None, List, ◌++◌, codes, decimal}
 use Rattle.pmb_words.specs.Left.{pieces_left}
 use Rattle.pmb_trace.specs.Fields as fields
 use Rattle.pmb_trace.specs.Line as line
 use Rattle.pmb_trace.specs.declared.fields.Number.{Number}
 use Rattle.pmb_trace.specs.declared.fields.Outcome.{Outcome}
+use Rattle.pmb_trace.specs.declared.fields.OutcomeText.{OutcomeText}
+use Rattle.pmb_trace.specs.declared.fields.OutcomeText.TheVariants as outcome_text
 use Rattle.pmb_trace.specs.declared.line.Event.{Event}
 use Rattle.pmb_trace.specs.declared.line.TraceLine.{TraceLine}
 use Rattle.pmb_trace.specs.declared.line.TraceLine.TheVariants as says
@@ -16,8 +18,12 @@ use Rattle.pmb_trace.specs.declared.loss.Loss.TheVariants as loss
 abbrev pub number_of : Number → fields.Number
 number_of number = record { text = number.text.now; value = number.value }
 
+abbrev pub text_of : OutcomeText → List ℕ
+text_of (outcome_text.Written text) = text.now
+text_of (outcome_text.Below number) = codes "-" ++ decimal number
+
 abbrev pub outcome_of : Outcome → fields.Outcome
-outcome_of outcome = record { text = outcome.text.now; value = outcome.value }
+outcome_of outcome = record { text = text_of outcome.text; value = outcome.value }
 
 -- the value alone
 abbrev pub value_of : Option fields.Number → Option ℕ

@@ -1,16 +1,17 @@
 //! The fields of an event: words that begin with their name.
 
-ghost use Rattle.std.specs.Prelude.{◌≡◌, [], ◌<◌, ◌≤◌, IfSome, if◌then◌else◌, codes, length, option_copied, option_map};
+ghost use Rattle.std.specs.Prelude.{◌≡◌, [], ◌<◌, ◌≤◌, ◌++◌, IfSome, if◌then◌else◌, codes, decimal as decimal_digits, length, option_copied, option_map};
 ghost use Rattle.pmb_words.specs.Parts.{after, parted};
 ghost use Rattle.pmb_words.specs.Numbers.{decimal_of};
 ghost use Rattle.pmb_trace.specs.Fields.{address_field as address_in, bus_field as bus_in, bytes_field, bytes_up_to_closing, command_field as command_in};
 ghost use Rattle.pmb_trace.specs.Fields.{decimal_field as decimal_in, flags_field as flags_in, four_digits as four_in, negative, one_or_two_digits as one_or_two_in};
-ghost use Rattle.pmb_trace.specs.Fields.{outcome as outcome_in, outcome_field as outcome_at, three_digits as three_in};
+ghost use Rattle.pmb_trace.specs.Fields.{outcome as outcome_in, outcome_field as outcome_at, three_digits as three_in, with_sign as signed_in};
 ghost use Rattle.pmb_trace.specs.Line.{event_seconds, is_fraction as are_fraction, point};
 ghost use Rattle.pmb_trace.specs.Views.{number_of, outcome_of, shown, value_of};
 
 use crate::line::before_colon;
 use arrayvec::ArrayVec;
+use itoa::Buffer;
 use pmb_words::{behind, byte, decimal, hexadecimal, part};
 
 /// A number as it is written, and its value.
@@ -22,13 +23,36 @@ pub struct Number<'a> {
     pub value: u64,
 }
 
-/// A number that may be below 0, as it is written, and its value where it is not.
+/// A number that may be below 0, and its value where it is not.
 #[derive(Clone, Copy, Drop, Debug)]
 pub struct Outcome<'a> {
-    /// Its digits, with `-` in front or without.
-    pub text: &'a [u8],
+    /// How it is told.
+    pub text: OutcomeText<'a>,
     /// Its value, or none below 0.
     pub value: Option<u64>,
+}
+
+/// How a number that may be below 0 is told.
+#[derive(Clone, Copy, Drop, Debug)]
+pub enum OutcomeText<'a> {
+    /// As it is written: digits, with `-` in front or without.
+    Written(&'a [u8]),
+    /// `-` and this number, since it is written without its sign.
+    Below(u16),
+}
+
+/// Room for a number with its sign.
+pub type Told = ArrayVec<u8, 8>;
+
+/// A number that is that far below 0, in `room`.
+pub fn below_zero(number: u16, room: &mut Told) -> &[u8]
+    ensures { result.now ≡ codes "-" ++ decimal_digits number }
+{
+    room.clear();
+    room.push(b'-');
+    let mut buffer = Buffer::new();
+    let _ = room.try_extend_from_slice(buffer.format(number).as_bytes());
+    room.as_slice()
 }
 
 /// The bytes that a line shows.
@@ -150,7 +174,7 @@ fn read_up_to_closing(text: &[u8], bytes: &mut Bytes) -> bool
     false
 }
 
-/// `ret=2`, `res=-6`.
+/// `ret=2`, `res=-6`, and `res=65530` for that.
 pub fn outcome_field<'a>(name: &[u8], word: &'a [u8]) -> Option<Outcome<'a>>
     ensures { option_map outcome_of result ≡ outcome_at name.now word.now }
 {
@@ -162,11 +186,24 @@ fn signed(text: &[u8]) -> Option<Outcome<'_>>
     ensures { option_map outcome_of result ≡ outcome_in text.now (decimal_of text.now) }
 {
     match decimal(text) {
-        Some(value) => Some(Outcome {
-            text,
-            value: Some(value),
-        }),
+        Some(number) => Some(with_sign(text, number)),
         None => negative_outcome(text),
+    }
+}
+
+/// A number without a sign, as it is written: below 0 where the sixteen bits of a result are.
+fn with_sign(text: &[u8], number: u64) -> Outcome<'_>
+    ensures { outcome_of result ≡ signed_in text.now number }
+{
+    if (0x8000..0x10000).contains(&number) {
+        return Outcome {
+            text: OutcomeText::Below((0x10000 - number) as u16),
+            value: None,
+        };
+    }
+    Outcome {
+        text: OutcomeText::Written(text),
+        value: Some(number),
     }
 }
 
@@ -176,7 +213,7 @@ fn negative_outcome(text: &[u8]) -> Option<Outcome<'_>>
 {
     let number = decimal(behind(b"-", text)?)?;
     Some(Outcome {
-        text,
+        text: OutcomeText::Written(text),
         value: if number == 0 { Some(0) } else { None },
     })
 }

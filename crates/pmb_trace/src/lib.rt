@@ -18,8 +18,8 @@ mod loss;
 
 pub use event_name::{EventKind, EventName};
 pub use fields::{
-    Bytes, MOST_WORD, Number, Outcome, address_field, bus_field, command_field, decimal_field,
-    event_time, flags_field, outcome_field, read_bytes,
+    Bytes, MOST_WORD, Number, Outcome, OutcomeText, Told, address_field, below_zero, bus_field,
+    command_field, decimal_field, event_time, flags_field, outcome_field, read_bytes,
 };
 pub use line::{Event, TraceLine, trace_line};
 pub use loss::Loss;

@@ -1,9 +1,10 @@
 //! A line of a trace.
 
 ghost use Rattle.std.specs.Prelude.{◌≡◌, [], option_copied, option_map};
-ghost use Rattle.pmb_words.specs.Left.{words_left};
+ghost use Rattle.pmb_words.specs.Left.{pieces_left, words_left};
 ghost use Rattle.pmb_words.specs.Parts.{blank, pieces};
-ghost use Rattle.pmb_trace.specs.Line.{bare_name as bare, before_colon as before, event_in as first_event, is_other as is_other_in};
+ghost use Rattle.pmb_trace.specs.Line.{as_closed as closed_by, bare_name as bare, before_colon as before, before_end, comment_end, event_in as first_event};
+ghost use Rattle.pmb_trace.specs.Line.{event_of_line as line_event, is_other as is_other_in, opens_comment as opens};
 ghost use Rattle.pmb_trace.specs.Line.{name_of as named_by, others_in, trace_line as said, unlost, without_system as bare_word};
 ghost use Rattle.pmb_trace.specs.Views.{event_of, line_of};
 
@@ -60,9 +61,51 @@ fn without_loss(line: &[u8]) -> TraceLine<'_>
     if behind(b"cpus=", line).is_some() {
         return TraceLine::Heading;
     }
-    match event_in(line) {
+    match event_of_line(line) {
         Some(event) => TraceLine::Says(event),
         None => TraceLine::Nothing,
+    }
+}
+
+/// The first event of a line, without the end of the comment that it stands in.
+fn event_of_line(line: &[u8]) -> Option<Event<'_>>
+    ensures { option_map event_of result ≡ line_event line.now }
+{
+    match before_comment_end(line) {
+        Some(text) => Some(event_in(text)?.as_closed(true)),
+        None => Some(event_in(line)?.as_closed(false)),
+    }
+}
+
+/// A line without the end of a comment, where it ends with one.
+fn before_comment_end(line: &[u8]) -> Option<&[u8]>
+    ensures { option_copied result ≡ before_end comment_end line.now }
+{
+    line.strip_suffix(b" */")
+}
+
+/// No fields.
+fn no_fields<'a>() -> Pieces<'a>
+    ensures { pieces_left result ≡ [] }
+{
+    let mut left = Pieces::of(b"");
+    let _ = left.next_piece();
+    left
+}
+
+impl<'a> Event<'a> {
+    /// The event of a line that ends with a comment, or of one that doesn't: without its fields, where
+    /// it opens no such comment, or one that is not closed.
+    fn as_closed(self, closes: bool) -> Event<'a>
+        ensures { event_of result ≡ closed_by (opens self.entry.front.now) closes (event_of self.entry) }
+    {
+        if (self.front == b"/*".as_slice()) == closes {
+            return self;
+        }
+        Event {
+            fields: no_fields(),
+            ..self
+        }
     }
 }
 

@@ -1,5 +1,5 @@
--- What went before a place in a capture: what was said, and where a line was dropped. A packet in which an event was
--- refused counts as such a line, with all that is passed over.
+-- What went before a place in a capture: what was said, and where a line was dropped. A refusal in which devices may
+-- have been written to counts as such a line.
 use Rattle.std.specs.Prelude.{List, [], ◌∷◌}
 use Rattle.pmb_transaction.specs.Transaction.{TransactionData}
 

@@ -25,6 +25,7 @@ use Rattle.pmb_fact_stream.specs.UnderWay.{under_way}
 use Rattle.pmb_fact_stream.specs.machine.Begun.{begun_legs}
 use Rattle.pmb_fact_stream.specs.declared.front.Front.TheVariants as fronts
 use Rattle.pmb_fact_stream.specs.machine.Front.{front_of}
+use Rattle.pmb_fact_stream.specs.machine.Losing.{KnowsLost}
 use Rattle.pmb_fact_stream.specs.machine.OpenTime.{KeepsTime, kept_time}
 
 abbrev pub stream_choice : Stream → ChoiceData
@@ -111,6 +112,7 @@ pub record KeepsSame (old new : Stream) : Type 0 where
   pub begun : new.begun ≡ old.begun
   pub passing : new.passing ≡ old.passing
   pub front : new.front ≡ old.front
+  pub writes : new.writes ≡ old.writes
 
 -- It began after `b`, between words, and a scan that began with it has reached so much since.
 pub record StreamAt (b : Before) (stream : Stream) (reached : Reached) : Type 0 where
@@ -120,6 +122,7 @@ pub record StreamAt (b : Before) (stream : Stream) (reached : Reached) : Type 0 
   pub packet : KeepsUnderWay b stream reached.text reached.standing
   pub counted : IsCountOf reached.standing (length reached.events)
   pub times : KnowsTimes stream reached
+  pub loses : KnowsLost stream.writes reached reached.standing
 
 -- Nothing was reached yet.
 abbrev pub StreamBegins : Before → Stream → Type 0

@@ -3,7 +3,7 @@ use Rattle.std.specs.Prelude.{ℕ, Option, Some, None, if◌then◌else◌, List
 use Rattle.std.specs.Str.{bytes_eq}
 use Rattle.pmb_words.specs.Numbers.{byte_of}
 use Rattle.pmb_words.specs.Parts.{after}
-use Rattle.pmb_sigrok_line.specs.Annotation.{ByteForm, Form, bit_forms, bits_row, bus_forms, bus_row, byte_forms, forms}
+use Rattle.pmb_sigrok_line.specs.Annotation.{ByteForm, Form, bit_forms, bus_forms, byte_forms, forms}
 use Rattle.pmb_sigrok_line.specs.Annotation.{or_event, quote, two_digits, with_byte}
 use Rattle.pmb_sigrok_line.specs.declared.event.Event.{Event}
 
@@ -93,11 +93,7 @@ long_byte text = among long_front (λ f rest. repeated_digits (between f) rest) 
 unfoldable pub long_event : List ℕ → Option Event
 long_event text = or_event (long_word text) (long_byte text)
 
--- `Address/Data: Start` and `Bits: 0`
-unfoldable pub row_event : List ℕ → Option Event
-row_event text = of_rest bus_event (after bus_row text) (of_rest bit_word (after bits_row text) None)
-
 -- an annotation, by the shapes in turn
 unfoldable pub shaped : List ℕ → Option Event
 shaped text =
-    of_rest quoted_event (after quote text) (or_event (short_event text) (or_event (long_event text) (row_event text)))
+    of_rest quoted_event (after quote text) (or_event (short_event text) (long_event text))

@@ -68,12 +68,12 @@ longer_line bad more = record bad { line = bad.line ++ more }
 
 -- after its bytes so far, where these addresses are ignored, and where its word's fact was counted
 -- too
-abbrev pub behind_bytes : Option (List ℕ) → Before → BadLine → Before
-behind_bytes ignored b bad = with_bytes (at_word ignored b bad) bad.line
+abbrev pub behind_bytes : Option (List ℕ) → List DeviceParts → Before → BadLine → Before
+behind_bytes ignored profile b bad = with_bytes (at_word ignored profile b bad) bad.line
 
-abbrev pub behind_fact : Option (List ℕ) → Before → BadLine → Before
-behind_fact ignored b bad = record (behind_bytes ignored b bad) {
-  counts = after_bad_token (at_word ignored b bad).counts;
+abbrev pub behind_fact : Option (List ℕ) → List DeviceParts → Before → BadLine → Before
+behind_fact ignored profile b bad = record (behind_bytes ignored profile b bad) {
+  counts = after_bad_token (at_word ignored profile b bad).counts;
 }
 
 -- the fact of the word under way, which is no token, with the time of what is under way
@@ -133,10 +133,10 @@ module _ {K : Type 0} (Keeps : K → Setting → List FactData → Type 0) (choi
     pub so_far : IsBadSoFar choice profile b bad at_hand
     pub is_text : bytes ≡ bad.front ++ bad.line
     pub under_way : front_word bad.line ≡ bad.line
-    pub knows : StreamKnows (behind_bytes choice.ignored b bad) now.stream
+    pub knows : StreamKnows (behind_bytes choice.ignored profile b bad) now.stream
     pub time : stream_time now.stream ≡ open_time bad.front bad.events
     pub told : (more : List ℕ) → IsTold choice profile (KeptIn keeper) (KeptIn now.keeper) text
-        (front_facts choice.ignored b (longer_line bad more))
+        (front_facts choice.ignored profile b (longer_line bad more))
 
   -- More of it may come: fewer than 32 bytes came where none are at hand.
   pub record InBadWord (at_hand : List ℕ) (now : KeptStream K) (keeper : K) (b : Before)
@@ -160,11 +160,11 @@ module _ {K : Type 0} (Keeps : K → Setting → List FactData → Type 0) (choi
     -- whatever follows, more is told of no word under way
     pub over : (whole more : List ℕ) → whole ≡ bad.line ++ (at_hand ++ more) → front_word whole ≡ whole
         → length whole < 32 → ⊥
-    pub knows : StreamKnows (behind_fact choice.ignored b bad) now.stream
+    pub knows : StreamKnows (behind_fact choice.ignored profile b bad) now.stream
     -- whatever follows, up to the end of the line
     pub told : (more line rest : List ℕ) → at_hand ++ more ≡ line ++ rest → IsBehindLine rest
         → IsTold choice profile (KeptIn keeper) (KeptIn now.keeper) text
-        (bad_line_facts choice.ignored b (longer_line bad line))
+        (bad_line_facts choice.ignored profile b (longer_line bad line))
 
   module _ (after : AfterBadToken) where
     -- All bytes, and all text: those up to there, and those after it, of which this holds.

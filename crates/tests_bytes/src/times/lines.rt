@@ -8,7 +8,7 @@ type Row = (&'static str, Option<&'static [u8]>);
 
 #[rattlefmt::skip]
 static LINES: &[Row] = &[
-    // seconds: digits, with at most one point
+    // seconds: digits, with at most one point, and a sign before them or none
     ("# 0.5 s", Some(b"0.5")),
     ("# 0 s", Some(b"0")),
     ("# 00.10 s", Some(b"00.10")),
@@ -19,8 +19,14 @@ static LINES: &[Row] = &[
     ("# . s", None),
     ("# .. s", None),
     ("# 1.2.3 s", None),
-    ("# -1 s", None),
-    ("# +1 s", None),
+    ("# -1 s", Some(b"-1")),
+    ("# +1 s", Some(b"+1")),
+    ("# -0.000128 s", Some(b"-0.000128")),
+    ("# -.5 s", Some(b"-.5")),
+    ("# - s", None),
+    ("# --1 s", None),
+    ("# 1- s", None),
+    ("# - 1 s", None),
     ("# 1e3 s", None),
     ("# 1,5 s", None),
     ("# 1:30 s", None),

@@ -9,11 +9,11 @@ use Rattle.pmb_cli.proofs.works.do_work.Goals as goal
 
 pub returns-in-Show : goal.returns-in-Show
 returns-in-Show g c = did_work g.R.Source.told g.W.Sink.told _ _ (ap wanted_of c.in-Show.is) _ _ _ _ _ _ _
-    (ap showing c.profile-profile.ensures.profile) c.show.result c.show.ensures
+    (ap showing c.profile-profile.ensures.profile) c.show_apart.result c.show_apart.ensures
 
 pub returns-in-Check : goal.returns-in-Check
 returns-in-Check g c = did_work g.R.Source.told g.W.Sink.told _ _ (ap wanted_of c.in-Check.is) _ _ _ _ _ _ _
-    (ap checking c.profile-profile.ensures.profile) c.check_capture.result c.check_capture.ensures
+    (ap checking c.profile-profile.ensures.profile) c.check_apart.result c.check_apart.ensures
 
 pub returns-in-Json : goal.returns-in-Json
 returns-in-Json g c = did_work g.R.Source.told g.W.Sink.told _ _ (ap wanted_of c.in-Json.is) _ _ _ _ _ _ _ refl
@@ -25,7 +25,7 @@ returns-in-Log g c = did_work g.R.Source.told g.W.Sink.told _ _ (ap wanted_of c.
 
 pub returns-in-Build : goal.returns-in-Build
 returns-in-Build g c = did_work g.R.Source.told g.W.Sink.told _ _ (ap wanted_of c.in-Build.is) _ _ _ _ _ _ _
-    (ap building c.profile-profile.ensures.profile) c.build.result c.build.ensures
+    (ap building c.profile-profile.ensures.profile) c.build_apart.result c.build_apart.ensures
 
 pub returns-in-Profile : goal.returns-in-Profile
 returns-in-Profile g c = did_work g.R.Source.told g.W.Sink.told _ _ (ap wanted_of c.in-Profile.is) _ _ _ _ _ _ _ refl
@@ -34,7 +34,7 @@ returns-in-Profile g c = did_work g.R.Source.told g.W.Sink.told _ _ (ap wanted_o
 -- `run` and `stats` may lack memory.
 pub returns-in-Run : goal.returns-in-Run
 returns-in-Run g c = did_with_memory g.R.Source.told g.W.Sink.told _ _ (ap wanted_of c.in-Run.is) _ _ _ _ _ _ _
-    (ap running c.profile-profile.ensures.profile) refl c.run.result c.run.ensures
+    (ap running c.profile-profile.ensures.profile) refl c.run_apart.result c.run_apart.ensures
 
 pub returns-in-Stats : goal.returns-in-Stats
 returns-in-Stats g c = did_with_memory g.R.Source.told g.W.Sink.told _ _ (ap wanted_of c.in-Stats.is) _ _ _ _ _ _ _

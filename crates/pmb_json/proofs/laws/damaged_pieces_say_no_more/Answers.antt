@@ -1,6 +1,6 @@
 -- What was on the bus is what the piece has, mended. After that both have the same, and lose the same at refusals.
-use Rattle.std.proofs.Common.{◌≡◌, List, [], ◌∷◌, ◌++◌, map, inr, ap, ◌∙◌, subst, sym, append_assoc}
-use Rattle.std.proofs.Common.{append-nil}
+use Rattle.std.proofs.Common.{◌≡◌, ◌+◌, List, [], ◌∷◌, ◌++◌, map, inr, ap, ◌∙◌, subst, sym, append_assoc}
+use Rattle.std.proofs.Common.{append-nil, refl}
 use Rattle.pmb_command.specs.Parts.{DeviceParts}
 use Rattle.pmb_note.specs.Paging.{mode as mode_of_whole, page as page_of_whole, paging}
 use Rattle.pmb_transaction.specs.Transaction.{TransactionData}
@@ -9,10 +9,12 @@ use Rattle.pmb_unknown_start.specs.declared.start.Start.{Start}
 use Rattle.pmb_unknown_start.specs.declared.start.Start.TheVariants.{AllKnown}
 use Rattle.pmb_unknown_start.specs.Past.{PastData, Said, Dropped, transactions_of}
 use Rattle.pmb_unknown_start.proofs.Drops.{all_said, drops_front, said_append}
+use Rattle.pmb_fact_stream.specs.Lost.{lost_in}
 use Rattle.pmb_fact_stream.specs.Spans.{past_in}
 use Rattle.pmb_json.specs.Mended.{CanBeMended}
 use Rattle.pmb_json.specs.Pieces.{DropsOnOwnPages, SameTimes}
 use Rattle.pmb_json.proofs.Dropped.{spans_are}
+use Rattle.pmb_json.proofs.Losses.{loses_one, same_lost}
 use Rattle.pmb_json.proofs.Mended.{mended_on, mode_mended, page_mended, phase_mended}
 use Rattle.pmb_json.proofs.Pieces.{Agree, StandBeside, spans_said}
 use Rattle.pmb_json.proofs.laws.damaged_pieces_say_no_more.Goals as goal
@@ -75,7 +77,8 @@ module _ (profile : List DeviceParts) (before ts : List TransactionData) (within
   )
 
 pub returns : goal.returns
-returns c choice profile place there times theirs before ts within n spans told can drops =
+returns c choice profile place there times theirs before ts within n m events spans told can drops =
+    let lost = lost_in profile m events in
     let start = choice.start in
     let Same = HaveTheSame profile before ts within in
     let Fine = IsFine profile before ts within in
@@ -113,7 +116,8 @@ returns c choice profile place there times theirs before ts within n spans told 
           }));
     } in
     spans_said c.objects_are_of_facts.ensures SameTimes choice profile start AllKnown Same Fine stand place there
-    times theirs n spans within (on_bus profile before ts within) (λ at. inr (told at))
+    times theirs lost (lost_in profile (n + m) events) (loses_one profile m events) n
+    (same_lost profile n m (n + m) events refl) spans within (on_bus profile before ts within) (λ at. inr (told at))
     ([], sym (append-nil within), sym (append-nil (on_bus profile before ts within)))
-    (spans_are Fine (none_fine profile before ts within) place times choice.ignored within spans
-    (λ p q split. front_fine profile before ts within (past_in spans) p q drops split))
+    (spans_are Fine (none_fine profile before ts within) place times choice.ignored lost within spans
+    (λ p q split. front_fine profile before ts within (past_in lost spans) p q drops split))

@@ -6,6 +6,7 @@ use Rattle.pmb_json_objects.specs.Counts.{nothing_counted}
 use Rattle.pmb_unknown_start.specs.declared.start.Start.TheVariants.{AllKnown}
 use Rattle.pmb_fact_stream.specs.Before.{at_first}
 use Rattle.pmb_fact_stream.specs.Choice.{ChoiceData}
+use Rattle.pmb_fact_stream.specs.Lost.{lost_in}
 use Rattle.pmb_fact_stream.specs.Spans.{after_spans, event_place, event_time, past_in}
 use Rattle.pmb_fact_stream.specs.declared.telling.Telling.TheVariants.{Objects}
 use Rattle.pmb_telling.specs.Text.{FactsFrom}
@@ -28,7 +29,8 @@ returns-clause-said c ignored profile after front back firsts others whole bus p
     let read = c.each_list_has_spans.ensures profile 0 events bus in
     let first : FirstPiece profile front = record { cut = pieces.cut; spans = read.0; reads = read.1 } in
     -- the facts of the first piece are those of its spans
-    let own : FactsFrom ignored profile after at_first front [] (firsts_in ignored first.spans front)
+    let lost = lost_in profile 0 events in
+    let own : FactsFrom ignored profile after at_first front [] (firsts_in ignored lost first.spans front)
     (after_spans ignored nothing_counted first.spans) = record {
       events = events;
       spans = first.spans;
@@ -38,17 +40,17 @@ returns-clause-said c ignored profile after front back firsts others whole bus p
       behind = refl;
     } in
     let firsts_are = c.one_list_of_facts.ensures ignored profile after front pieces.first.bad [] firsts
-    (firsts_in ignored first.spans front) pieces.first.counts (after_spans ignored nothing_counted first.spans) bus
+    (firsts_in ignored lost first.spans front) pieces.first.counts (after_spans ignored nothing_counted first.spans) bus
     pieces.first.from_first own in
     -- those of the whole are these, as it has them, and others
     let both = cut ignored OtherTimes profile laws front first SayTheSame
-    (same_across ignored OtherTimes (length events) (past_in first.spans)) (λ back k. inl refl) after
+    (same_across ignored OtherTimes (length events) (past_in lost first.spans)) (λ back k. inl refl) after
     pieces.second.bad back others pieces.second.counts pieces.second.from_first in
-    let there = firsts_in ignored first.spans both.text in
+    let there = firsts_in ignored both.lost first.spans both.text in
     let whole_is = c.one_list_of_facts.ensures ignored profile after (front ++ back) pieces.both.bad both.bad whole
     (there ++ both.others) pieces.both.counts both.counts bus pieces.both.from_first both.from_first in
     let said_there = spans_say_anywhere ignored (event_place [] 0 both.text) (event_place [] 0 front)
-    (event_time 0 both.text) (event_time 0 front) first.spans [] [] in
+    (event_time 0 both.text) (event_time 0 front) both.lost lost first.spans [] [] in
     ap said_in whole_is.0
     ∙ said_in_both there both.others
     ∙ ap (λ (l : List WhatData). l ++ said_in both.others) (said_there ∙ ap said_in (sym firsts_are.0))

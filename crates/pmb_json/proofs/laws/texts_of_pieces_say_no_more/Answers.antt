@@ -10,6 +10,7 @@ use Rattle.pmb_scan.specs.declared.after_bad_token.AfterBadToken.{AfterBadToken}
 use Rattle.pmb_json_objects.specs.Counts.{CountsData}
 use Rattle.pmb_fact_stream.specs.Before.{at_first}
 use Rattle.pmb_fact_stream.specs.Choice.{ChoiceData}
+use Rattle.pmb_fact_stream.specs.Lost.{lost_in}
 use Rattle.pmb_fact_stream.specs.Spans.{past_in}
 use Rattle.pmb_times.specs.Times.{time_at}
 use Rattle.pmb_json.specs.Objects.{objects_of}
@@ -31,12 +32,12 @@ returns c =
     → ((rest : List ℕ) (k : ℕ) → Tells timing (time_at rest k) (time_at (front ++ rest) (length first.events + k)))
     → FactsFrom choice.ignored profile after at_first back bad facts x
     → FactsFrom choice.ignored profile after at_first (front ++ back) lines whole y
-    → AllDropsOnOwnPages profile (past_in first.spans) facts
+    → AllDropsOnOwnPages profile (past_in (lost_in profile 0 first.events) first.spans) facts
     → (firsts : List FactData) × (others : List FactData) × (whole ≡ firsts ++ others)
     × EachSaysNoMore timing (objects_of choice profile facts) (objects_of (all_known choice) profile others) =
     λ timing choice profile after front back bad lines facts whole x y bus late first tells rest all drops.
     let start = choice.start in
-    let before = past_in first.spans in
+    let before = past_in (lost_in profile 0 first.events) first.spans in
     let stand : StandBeside profile start AllKnown (IsAfter before) (DropsOnOwnPages profile before) =
     stand_after profile start before (DropsOnOwnPages profile before) (λ x y is ok.
     subst (λ (past : List PastData). Agree profile start AllKnown x past) (sym is)
@@ -71,7 +72,7 @@ returns c =
     (NoMoreIfOk timing choice profile (DropsOnOwnPages profile before))
     (no_more_across timing choice profile (DropsOnOwnPages profile before) c.objects_are_of_facts.ensures
     (length first.events) before stand) tells after bad back facts x rest in
-    let firsts = firsts_in choice.ignored first.spans both.text in
+    let firsts = firsts_in choice.ignored both.lost first.spans both.text in
     let same = c.one_list_of_facts.ensures choice.ignored profile after (front ++ back) lines both.bad whole
     (firsts ++ both.others) y both.counts bus all both.from_first in (
       firsts,

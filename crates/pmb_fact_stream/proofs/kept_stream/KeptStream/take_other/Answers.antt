@@ -1,8 +1,9 @@
 use Rattle.std.proofs.Common.{[], ◌∷◌, ◌++◌, ◌∙◌, sym, subst, refl}
-use Rattle.pmb_scan.specs.Reached.{standing_after}
+use Rattle.pmb_scan.specs.Reached.{behind_event, standing_after}
 use Rattle.pmb_fact_stream.specs.declared.stream.Stream.{Stream}
 use Rattle.pmb_fact_stream.specs.machine.OpenTime.{KeepsTime}
 use Rattle.pmb_fact_stream.proofs.Fronts.{at_other, other_begins}
+use Rattle.pmb_fact_stream.proofs.Losing.{loses_as}
 use Rattle.pmb_fact_stream.proofs.Standing.{counts_as, keeps_as, times_event}
 use Rattle.pmb_fact_stream.proofs.Told.{same_then, told_other}
 use Rattle.pmb_fact_stream.proofs.kept_stream.KeptStream.take_other.Goals as goal
@@ -32,7 +33,7 @@ returns-clause-visits g c start reached text stands spells may is =
             let taken = c.take_event.ensures in
             let counted = c.count_event.ensures in
             let both = same_then before c.take_event.new.self mid taken.same counted.same in
-            let known = counted.knows _ (taken.knows _ told.at.knows) in
+            let known = counted.knows _ (taken.knows b reached told.at may) in
             told_other g.K.Keeper.Keeps b start old new reached text told c.the_last_word_stands_there.ensures n front
             event addr
             standing
@@ -43,9 +44,11 @@ returns-clause-visits g c start reached text stands spells may is =
             other (counts_as _ mid c.count_other.new.self addr (c.count_other.ensures _ known.counts) known)
             (keeps_as b mid new reached.text (standing_after reached.standing event)
             (record { choice = refl; profile = refl })
-            (record { said = refl; begun = refl; passing = refl; front = refl })
+            (record { said = refl; begun = refl; passing = refl; front = refl; writes = refl })
             (keeps_as b c.take_event.new.self mid reached.text (standing_after reached.standing event) counted.same
             counted.packet (taken.packet b reached told.at spells)))
+            (loses_as c.take_event.new.self.writes mid.writes (behind_event reached event)
+            (standing_after reached.standing event) counted.packet.writes (taken.loses b reached told.at may))
             c.put_other.new.keeper puts.text c.word-place.result
             (c.word-place.ensures (b.read ++ reached.text) told.at.knows.places)
             (puts.holds _ told.at.knows);

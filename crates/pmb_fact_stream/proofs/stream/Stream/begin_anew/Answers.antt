@@ -17,5 +17,5 @@ returns-clause-begins c b knows between =
       said = c.clear.ensures.cleared.said;
       begun = c.clear.ensures.cleared.begun;
       front = c.clear.ensures.cleared.front;
-    }) refl
+    }) c.clear.ensures.fresh refl
     c.new-self.ensures c.new-self-2.ensures

@@ -1,6 +1,6 @@
-use Rattle.std.proofs.Common.{Bool, ◌++◌, subst, sym, ◌∙◌}
+use Rattle.std.proofs.Common.{Bool, ◌++◌, subst, sym}
 use Rattle.pmb_unknown_start.specs.Late.{HasSeen}
-use Rattle.pmb_fact_stream.specs.Spans.{dropped_if}
+use Rattle.pmb_fact_stream.specs.Lost.{dropped_if}
 use Rattle.pmb_fact_stream.specs.Stream.{stream_profile}
 use Rattle.pmb_fact_stream.proofs.stream.Stream.lose.Goals as goal
 

@@ -15,4 +15,5 @@ returns-clause-begins c =
         packets_counted = ap (λ tally. tally.packets) c.new-3.ensures;
         refusals_counted = ap (λ tally. tally.refusals) c.new-3.ensures;
       };
-    }) (record { said = c.new-8.ensures; begun = c.new-9.ensures; front = refl }) refl c.new-6.ensures c.new-7.ensures
+    }) (record { said = c.new-8.ensures; begun = c.new-9.ensures; front = refl }) c.new-10.ensures refl
+    c.new-6.ensures c.new-7.ensures

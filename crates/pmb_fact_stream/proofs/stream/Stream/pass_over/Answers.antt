@@ -1,11 +1,11 @@
 use Rattle.std.proofs.Common.{◌+◌, ◌++◌, subst, sym, ◌∙◌}
-use Rattle.pmb_fact_stream.specs.Spans.{dropped_if}
+use Rattle.pmb_fact_stream.specs.Lost.{dropped_if}
 use Rattle.pmb_fact_stream.specs.machine.OpenTime.{HasTime}
 use Rattle.pmb_fact_stream.proofs.stream.Stream.pass_over.Goals as goal
 
 pub returns-clause-knows : goal.returns-clause-knows
 returns-clause-knows c b knows =
-    let past = b.past ++ dropped_if c.args.loses in
+    let past = b.past ++ dropped_if c.args.writes.has_write in
     let there = c.clear.ensures.knows (record b { n = b.n + 1; past = past })
     (c.count_event.ensures.knows (record b { past = past }) (c.lose.ensures.knows b knows)) in record {
       places = there.places;

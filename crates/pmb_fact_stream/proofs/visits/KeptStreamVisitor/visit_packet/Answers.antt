@@ -29,7 +29,7 @@ returns-clause-visits g c start reached text n front event stands spells standin
             (times_packet old.stream new reached n front event t
             (same_last front ends.front event Stop ends.split) taken.times
             (taken.time reached.text reached.events) told.at.times) ends packet none taken.same taken.passing
-            taken.cleared (taken.knows _ told.at.knows) c.put_packet.new.keeper puts.text
+            taken.cleared taken.fresh (taken.knows _ told.at.knows) c.put_packet.new.keeper puts.text
             (puts.holds _ told.at.knows);
       };
     }
@@ -55,6 +55,7 @@ returns-in-Other-clause-visits g c start reached text n front event stands spell
             told_other_packet g.K.Keeper.Keeps b start old new reached text told n front event t other.0 standing
             (times_packet old.stream new reached n front event t stop taken.times
             (taken.time reached.text reached.events)
-            told.at.times) stop other.1 taken.same taken.passing taken.cleared (taken.knows _ told.at.knows);
+            told.at.times) stop other.1 taken.same taken.passing taken.cleared taken.fresh
+            (taken.knows _ told.at.knows);
       };
     }

@@ -1,7 +1,15 @@
-use Rattle.std.proofs.Common.{◌≡◌, Bool, Option, None, Some, List, [], ◌++◌, length, ◌+◌, subst, sym, ◌∙◌, ap, refl}
+use Rattle.std.proofs.Common.{◌≡◌, Option, None, Some, List, [], ◌∷◌, ◌++◌, is_some, length, ◌+◌, ap, subst, sym, ◌∙◌, refl}
 use Rattle.pmb_unknown_start.specs.Past.{PastData}
-use Rattle.pmb_fact_stream.specs.Spans.{dropped_if, past_in}
-use Rattle.pmb_fact_stream.specs.Stream.{stream_profile}
+use Rattle.pmb_bus.specs.declared.event.Event.{Event}
+use Rattle.pmb_command.specs.Parts.{DeviceParts}
+use Rattle.pmb_partial_packet.specs.PartialPacket.{reply}
+use Rattle.pmb_fact_stream.specs.declared.stream.Stream.{Stream}
+use Rattle.pmb_fact_stream.specs.declared.writes.Writes.{Writes}
+use Rattle.pmb_fact_stream.specs.Before.{Before}
+use Rattle.pmb_fact_stream.specs.Lost.{dropped_if, heard, lost_between}
+use Rattle.pmb_fact_stream.specs.Stream.{StreamKnows}
+use Rattle.pmb_fact_stream.specs.machine.Losing.{WritesStandAt}
+use Rattle.pmb_fact_stream.proofs.Losing.{writes_open}
 use Rattle.pmb_io.proofs.Writing.{writes_nothing}
 use Rattle.pmb_reader.specs.Refusal.{refusal_data}
 use Rattle.pmb_transaction.specs.Capture.{Viable}
@@ -12,9 +20,16 @@ use Rattle.pmb_fact_stream.proofs.Told.{begins_in, kept_packet, timed_packet}
 use Rattle.pmb_fact_stream.proofs.ToldSpans.{told_begun_refusal, told_other_refusal, told_refusal}
 use Rattle.pmb_fact_stream.proofs.visits.KeptStreamVisitor.visit_refusal.Goals as goal
 
--- what is lost is what is said of the refused event
-lost_as : (past : List PastData) {loses other : Bool} → loses ≡ other → past ++ dropped_if loses ≡ past ++ dropped_if other
-lost_as past is = ap (λ (l : Bool). past ++ dropped_if l) is
+-- what is lost then, under the profile of the scan
+lost_as : (profile own : List DeviceParts) (b : Before) (front : List Event) (event : Event) (writes : Writes)
+    (stream : Stream) → profile ≡ own
+    → WritesStandAt own writes (heard (is_some (reply front)) front (event ∷ []))
+    → StreamKnows (record b { past = b.past ++ dropped_if writes.has_write }) stream
+    → StreamKnows (record b { past = b.past ++ lost_between profile front (event ∷ []) }) stream
+lost_as profile own b front event writes stream same stands knows =
+    knows_as _ _ stream refl refl
+    (ap (λ (l : List PastData). b.past ++ l) (ap dropped_if stands.has
+    ∙ ap (λ p. lost_between p front (event ∷ [])) (sym same))) refl knows
 
 none_of : {A : Type 0} (x y : Option A) → ((a : A) → x ≡ Some a → ⊥) → x ≡ y → y ≡ None
 none_of None y never is = sym is
@@ -32,7 +47,11 @@ returns-clause-visits g c start reached text n front stands spells standing refu
     let packet = kept_packet g.K.Keeper.Keeps stands.begins.0 start old new reached text first n front standing in
     let viable = subst (λ p. Viable p front) first.at.profile refused.under_way.viable in
     let taken = c.take_refused.ensures in
-    let loses = c.loses-loses.ensures stands.begins.0 reached.text n front packet viable in
+    let writes = writes_open old.stream.writes reached n front standing first.at.loses in
+    let here = c.writes_with-writes.ensures front viable packet.said
+    (subst (λ p. WritesStandAt p old.stream.writes front) first.at.profile writes) in
+    let there = subst (λ p. WritesStandAt p c.writes_with-writes.result (heard (is_some (reply front)) front (event ∷ [])))
+    (sym first.at.profile) here in
     let none = is_no_other_front _ front (λ is. c.in_default-front.not-Other (packet.front ∙ is)) in
     let still = address_stays _ front event (begins_in old.stream front event packet.front
     ∙ none_of _ _ c.in_default.not-Some c.begins_other.ensures) ∙ none in
@@ -54,8 +73,9 @@ returns-clause-visits g c start reached text n front stands spells standing refu
             (times_refusal old.stream new reached n front event refusal taken.times
             (taken.time reached.text reached.events has) told.at.times)
             (taken.packet b reached.text (n + length front))
-            (knows_as _ _ new refl refl (lost_as (b.past ++ past_in reached.spans) loses) refl
-            (taken.knows _ front knows packet.said)) (kept_time kept)
+            (taken.writes reached.profile _ there)
+            (lost_as reached.profile _ _ front event _ new first.at.profile here (taken.knows _ front knows packet.said))
+            (kept_time kept)
             (timed_packet g.K.Keeper.Keeps b start old new reached text told kept n front standing has)
             c.put_refusal.new.keeper puts.text c.word-place.result
             (c.word-place.ensures (b.read ++ reached.text) told.at.knows.places)
@@ -75,7 +95,11 @@ returns-in-Other-clause-visits g c start reached text n front stands spells stan
     let first = stands.told stands.begins.0 stands.begins.1 in
     let packet = kept_packet g.K.Keeper.Keeps stands.begins.0 start old new reached text first n front standing in
     let viable = subst (λ p. Viable p front) first.at.profile refused.under_way.viable in
-    let loses = c.loses-loses.ensures stands.begins.0 reached.text n front packet viable in
+    let writes = writes_open old.stream.writes reached n front standing first.at.loses in
+    let here = c.writes_with-writes.ensures front viable packet.said
+    (subst (λ p. WritesStandAt p old.stream.writes front) first.at.profile writes) in
+    let there = subst (λ p. WritesStandAt p c.writes_with-writes.result (heard (is_some (reply front)) front (event ∷ [])))
+    (sym first.at.profile) here in
     let other = is_other_front _ front (sym packet.front ∙ c.in-Other.is) in
     let still = address_stays _ front event (begins_in old.stream front event packet.front
     ∙ none_of _ _ c.in_default.not-Some c.begins_other.ensures) ∙ other.1 in record {
@@ -92,7 +116,8 @@ returns-in-Other-clause-visits g c start reached text n front stands spells stan
             (times_refusal old.stream new reached n front event refusal taken.times
             (taken.time reached.text reached.events has) told.at.times)
             (taken.packet b reached.text (n + length front))
-            (knows_as _ _ new refl refl (lost_as (b.past ++ past_in reached.spans) loses) refl
+            (taken.writes reached.profile _ there)
+            (lost_as reached.profile _ _ front event _ new first.at.profile here
             (taken.knows _ (knows_at _ old.stream kept told.at.knows)));
       };
     }
@@ -110,7 +135,11 @@ returns-in-Some-clause-visits g c start reached text n front stands spells stand
     let first = stands.told stands.begins.0 stands.begins.1 in
     let packet = kept_packet g.K.Keeper.Keeps stands.begins.0 start old new reached text first n front standing in
     let viable = subst (λ p. Viable p front) first.at.profile refused.under_way.viable in
-    let loses = c.loses-loses.ensures stands.begins.0 reached.text n front packet viable in
+    let writes = writes_open old.stream.writes reached n front standing first.at.loses in
+    let here = c.writes_with-writes.ensures front viable packet.said
+    (subst (λ p. WritesStandAt p old.stream.writes front) first.at.profile writes) in
+    let there = subst (λ p. WritesStandAt p c.writes_with-writes.result (heard (is_some (reply front)) front (event ∷ [])))
+    (sym first.at.profile) here in
     let other = other_begins _ front event addr
     (begins_in old.stream front event packet.front ∙ sym c.in-Some.ensures) in
     let puts = c.in_ok-put_other.ensures.puts _ (knows_at _ old.stream kept first.at.knows) in record {
@@ -129,7 +158,8 @@ returns-in-Some-clause-visits g c start reached text n front stands spells stand
             (times_refusal old.stream new reached n front event refusal taken.times
             (taken.time reached.text reached.events has) told.at.times)
             (taken.packet b reached.text (n + length front))
-            (knows_as _ _ new refl refl (lost_as (b.past ++ past_in reached.spans) loses) refl
+            (taken.writes reached.profile _ there)
+            (lost_as reached.profile _ _ front event _ new first.at.profile here
             (taken.knows _ (counts_as _ (record old.stream { time = kept }) c.count_other.new.self addr
             (c.count_other.ensures _ knows.counts) knows))) (kept_time kept)
             (timed_packet g.K.Keeper.Keeps b start old new reached text told kept n front standing has)

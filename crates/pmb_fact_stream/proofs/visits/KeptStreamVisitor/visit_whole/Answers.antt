@@ -72,7 +72,7 @@ returns-clause-visits g c start reached text n events stands between spells stan
             (c.is_group.ensures c.if-is_group.false)
             (subst (λ choice. other_address choice.ignored (whole_line is.rest) ≡ None)
             ((stands.told b begins).same.choice ∙ sym told.same.choice) own) (same_then _ _ _ line.same packet.same)
-            (packet.passing ∙ line.passing) packet.cleared
+            (packet.passing ∙ line.passing) packet.cleared packet.fresh
             (packet.knows _
             (line.knows _ is.rest told.at.knows ends is.small is.no_stop
             (omega (arith, c.saturating_sub.ensures, bytes_of))

@@ -18,9 +18,10 @@ use Rattle.pmb_telling.proofs.engine.Teller.end_bad_word.Goals as goal
 pub returns-in_ok-put_last_word-in-End-clause-takes : goal.returns-in_ok-put_last_word-in-End-clause-takes
 returns-in_ok-put_last_word-in-End-clause-takes g c start given text stands =
     let choice = teller_choice start in
+    let profile = teller_profile start in
     let laws = c.bad_words_stand_there.ensures in
     let behind = stands.behind in
-    let b = behind_bytes choice.ignored behind.b behind.holds.word.bad in
+    let b = behind_bytes choice.ignored profile behind.b behind.holds.word.bad in
     let knows = behind.holds.word.knows in
     let put = c.in_ok-put_last_word-in-End.ensures in
     let stream = c.args.self.now.kept.stream in
@@ -48,7 +49,7 @@ returns-in_ok-put_bad_word-in-Continue-clause-takes g c start given text stands 
     let laws = c.bad_words_stand_there.ensures in
     let old = c.args.self.now in
     let behind = stands.behind in
-    let b = behind_bytes choice.ignored behind.b behind.holds.word.bad in
+    let b = behind_bytes choice.ignored profile behind.b behind.holds.word.bad in
     let knows = behind.holds.word.knows in
     let put = c.in_ok-put_bad_word-in-Continue.ensures in
     let word : List FactData = open_word_fact (stream_time old.kept.stream) b ∷ [] in

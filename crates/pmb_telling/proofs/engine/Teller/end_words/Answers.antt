@@ -13,14 +13,15 @@ use Rattle.pmb_telling.specs.machine.Standing.{HasKept, KeptIn, last_word_lines,
 use Rattle.pmb_telling.proofs.MetWords.{met, met_knows}
 use Rattle.pmb_telling.proofs.OpenOthers.{OthersAreTold, tells_open}
 use Rattle.pmb_telling.proofs.Reading.{ended_kept, ends_met, ends_told, keeps_all, on_ok_all, reads_end, told_by}
-use Rattle.pmb_telling.proofs.Reading.{told_so_far}
+use Rattle.pmb_telling.proofs.Reading.{told_so_far, under}
 use Rattle.pmb_telling.proofs.Steps.{behind_put, ends_in_word}
 use Rattle.pmb_fact_stream.specs.Lines.{fact_lines, last_lines}
 use Rattle.pmb_scan.specs.Scan.{TakesEnd, end_spans}
 use Rattle.pmb_spans.specs.Spans.{moved_spans}
 use Rattle.pmb_fact_stream.specs.Choice.{ChoiceData}
-use Rattle.pmb_fact_stream.specs.Spans.{CountsTally, after_spans, past_in}
-use Rattle.pmb_fact_stream.specs.Before.{with_reached}
+use Rattle.pmb_fact_stream.specs.Spans.{CountsTally, after_spans}
+use Rattle.pmb_fact_stream.specs.Before.{past_of, with_reached}
+use Rattle.pmb_fact_stream.specs.Lost.{lost_in}
 use Rattle.pmb_fact_stream.specs.Others.{is_untold}
 use Rattle.pmb_fact_stream.specs.Stream.{StreamKnows, StreamStands, kept_by, stream_profile, stream_tally, stream_time}
 use Rattle.pmb_telling.proofs.engine.Teller.end_words.Goals as goal
@@ -58,7 +59,7 @@ returns-in-None-clause-ends g c start bytes text stands =
     let tells = tells_open others choice.ignored there c.truncation-end.result none end in
     let counts = after_spans choice.ignored b.counts (there.spans ++ last) in
     let lines = λ (k : ChoiceData) (p : List DeviceParts).
-    fact_lines k p (text_facts k.ignored b there.text (b.past ++ past_in there.spans)
+    fact_lines k p (text_facts k.ignored b there.text (lost_in there.profile b.n there.events) (b.past ++ past_of there)
     (moved_spans b.n (filter (is_untold k.ignored) last)))
     ++ last_lines k p (after_spans k.ignored b.counts (there.spans ++ last)) in
     let said = lines choice profile in
@@ -67,9 +68,10 @@ returns-in-None-clause-ends g c start bytes text stands =
     let reads = reads_end g.K.Keeper.Keeps choice profile behind.keeper b old.scan old.kept behind.used behind.put words
     taken.text said c.take_end.new.self kept last c.spans_move.ensures ends tells end refl in
     let so_told = told_by g.K.Keeper.Keeps choice profile behind.keeper b old.scan old.kept behind.used behind.put words
-    there (behind.put ++ taken.text) kept told [] in
+    there (behind.put ++ taken.text) kept told [] [] in
     let At = KeptIn g.K.Keeper.Keeps choice profile in
-    let left = λ (k : ChoiceData). text_facts k.ignored b there.text (b.past ++ past_in there.spans)
+    let left = λ (k : ChoiceData). text_facts k.ignored b there.text (lost_in there.profile b.n there.events)
+    (b.past ++ past_of there)
     (moved_spans b.n (filter (is_untold k.ignored) last)) in
     on_ok_all c.put_end.result (λ put tallied ended. record {
       text = taken.text ++ said;
@@ -86,7 +88,7 @@ returns-in-None-clause-ends g c start bytes text stands =
           (stream_tally c.put_end.new.self)) (told.same.choice ∙ words.same_choice) tallied)
           (keeps_all (At start.kept.keeper) (At behind.keeper) (At kept.keeper) (At c.put_end.new.keeper) behind.facts
           (told_so_far g.K.Keeper.Keeps choice profile behind.keeper b old.scan old.kept behind.used behind.put words
-          there) (left choice) reads.0 behind.kept so_told.kept
+          there []) (left choice) reads.0 behind.kept so_told.kept
           (ended_kept g.K.Keeper.Keeps choice profile stream (told.same.choice ∙ words.same_choice)
           (told.same.profile ∙ words.same_profile) kept.keeper c.put_end.new.keeper left ended) reads.3);
     }) puts (c.put_end.ensures.tally b there told.at end none) (c.put_end.ensures.kept b there told.at spells end none)
@@ -129,12 +131,14 @@ returns-in-Some-clause-ends g c start bytes text stands =
     taken.text _ c.take_end.new.self kept last c.spans_move.ensures c.open_times_stay.ensures laws.begun
     laws.under_way ends tells
     end in
-    let knows = met_knows choice profile b there front.0 last stream tells end front.1
+    let same = under g.K.Keeper.Keeps choice profile behind.keeper b old.scan old.kept behind.used behind.put words there
+    (behind.put ++ taken.text) kept told in
+    let knows = met_knows choice profile b there front.0 last stream tells end front.1 same
     (subst (λ (k : ChoiceData). StreamKnows (with_reached k.ignored b there) stream)
     (told.same.choice ∙ words.same_choice) told.at.knows) in
     let time = stream_time stream in
     let lines = λ (k : ChoiceData) (p : List DeviceParts).
-    last_word_lines k p time (behind_bytes choice.ignored b bad) in
+    last_word_lines k p time (behind_bytes choice.ignored profile b bad) in
     let said = lines choice profile in
     let later = behind_put g.K.Keeper.Keeps choice profile (teller_bad_words start) _ _
     (λ keeper at used put. Unit {0}) bytes text taken.text
@@ -157,7 +161,7 @@ returns-in-Some-clause-ends g c start bytes text stands =
           after.tally
           (ended_kept g.K.Keeper.Keeps choice profile stream (told.same.choice ∙ words.same_choice)
           (told.same.profile ∙ words.same_profile) kept.keeper c.put_last_word.new.self.kept.keeper
-          (λ k. open_word_fact time (behind_bytes choice.ignored b bad) ∷ []) ended));
-    }) (c.put_last_word.ensures.puts (behind_bytes choice.ignored b bad) knows)
-    (c.put_last_word.ensures.knows (behind_bytes choice.ignored b bad) knows)
-    (c.put_last_word.ensures.kept (behind_bytes choice.ignored b bad) knows)
+          (λ k. open_word_fact time (behind_bytes choice.ignored profile b bad) ∷ []) ended));
+    }) (c.put_last_word.ensures.puts (behind_bytes choice.ignored profile b bad) knows)
+    (c.put_last_word.ensures.knows (behind_bytes choice.ignored profile b bad) knows)
+    (c.put_last_word.ensures.kept (behind_bytes choice.ignored profile b bad) knows)

@@ -45,7 +45,7 @@ returns-then-not-is_over-clause-takes g c start given text is stands =
           (omega (
             arith,
             over.1,
-            c.word_length-2.ensures.kept (behind_bytes choice.ignored behind.b later.bad)
+            c.word_length-2.ensures.kept (behind_bytes choice.ignored profile behind.b later.bad)
                 later.knows,
           )));
     }))
@@ -72,14 +72,14 @@ returns-clause-takes g c start given text is stands =
     let later = goes_on g.K.Keeper.Keeps choice profile laws.opened behind.keeper behind.b behind.between bytes word
     rest
     behind.used behind.put old.kept stream split solid taken.knows taken.time has in
-    let had = c.word_length.ensures.kept (behind_bytes choice.ignored behind.b has.bad) has.knows in
-    let has_now = c.word_length-2.ensures.kept (behind_bytes choice.ignored behind.b later.bad) later.knows in
+    let had = c.word_length.ensures.kept (behind_bytes choice.ignored profile behind.b has.bad) has.knows in
+    let has_now = c.word_length-2.ensures.kept (behind_bytes choice.ignored profile behind.b later.bad) later.knows in
     let counted : count ≡ length word = sym (length-take-le count bytes c.word_bytes-count.ensures.within) in
     let stops = subst (λ (l : List ℕ). (front_word l ≡ [])
-    ⊎ (32 ≤ length (take 32 (open_word (behind_bytes choice.ignored behind.b has.bad).read)) + length word))
+    ⊎ (32 ≤ length (take 32 (open_word (behind_bytes choice.ignored profile behind.b has.bad).read)) + length word))
     (sym c.behind-rest.ensures.rest)
     (subst (λ (n : ℕ). (front_word (drop count bytes) ≡ [])
-    ⊎ (32 ≤ length (take 32 (open_word (behind_bytes choice.ignored behind.b has.bad).read)) + n)) counted
+    ⊎ (32 ≤ length (take 32 (open_word (behind_bytes choice.ignored profile behind.b has.bad).read)) + n)) counted
     (subst (λ (n : ℕ). (front_word (drop count bytes) ≡ []) ⊎ (32 ≤ n + count)) had c.word_bytes-count.ensures.over)) in
     let over = subst (λ (n : ℕ). ((rest ≡ []) → ⊥) ⊎ (32 ≤ n)) has_now c.if-not-is_over.ensures in
     line_then g.K.Keeper.Keeps c.end_bad_word.result start _ given word rest bytes text [] _ _ _ _ _ _ split

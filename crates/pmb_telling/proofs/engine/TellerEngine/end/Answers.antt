@@ -29,7 +29,7 @@ returns-in-BadWord-clause-ends g c start bytes text stands =
     let laws = c.bad_words_stand_there.ensures in
     let behind = word.behind in
     let has = behind.holds.word in
-    let b = behind_bytes choice.ignored behind.b has.bad in
+    let b = behind_bytes choice.ignored profile behind.b has.bad in
     let kept = c.args.self.now.kept in
     let stream = kept.stream in
     let lines = λ (k : ChoiceData) (p : List DeviceParts). last_word_lines k p (stream_time stream) b in
@@ -61,7 +61,7 @@ returns-in-BadLine-clause-ends g c start bytes text stands =
     c.in-BadLine.is stands in
     let behind = line.1.behind in
     let has = behind.holds in
-    let b = behind_fact choice.ignored behind.b has.bad in
+    let b = behind_fact choice.ignored profile behind.b has.bad in
     let kept = c.args.self.now.kept in
     let stream = kept.stream in
     let lines = λ (k : ChoiceData) (p : List DeviceParts). last_lines k p b.counts in
