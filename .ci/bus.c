@@ -2,7 +2,7 @@
  * requests, and what was logged of them; closed handles, those of another kind, and threads; and, with
  * REFUSES defined and the linker's --wrap of malloc, realloc and free, with each allocation refused. Then it
  * also counts them, and writes the figures of memory that docs/devices.md has. What is expected is worked out
- * by docs/devices.md and docs/text.md. C99 and C++. */
+ * by docs/devices.md and docs/requests.md. C99 and C++. */
 #include <pthread.h>
 #include <stdio.h>
 #include <stdlib.h>

@@ -315,7 +315,7 @@ def compare_kinds_of_objects(program):
     here: no object lacks a key that its type always has, and no type has a key or a word that no
     object had."""
     sample = read("docs", "profiles.md").split(b"## The sample profile")[1].split(b"```\n")[1]
-    page = read("docs", "packets.md").decode()
+    page = read("docs", "errors.md").decode()
     reasons = re.findall("(?m)^\\| `([A-Z][A-Za-z]+)` \\|.*\\| `(S [^|`]*)` \\|", page)
     for _, capture in reasons:
         compare_whole(program, "json", sample, capture.encode())
@@ -336,7 +336,7 @@ def compare_kinds_of_objects(program):
             options = {"keep_going": True, "late": late}
             compare_whole(program, "json", RARE.encode(), text.encode(), options)
     found = words_of(HINTS["refusal"]["reason"])
-    check(found == {reason for reason, _ in reasons}, f"the reasons of docs/packets.md: {found}")
+    check(found == {reason for reason, _ in reasons}, f"the reasons of docs/errors.md: {found}")
     kinds = dict(told_of_kinds())
     check(kinds.keys() == KINDS.keys(), f"the kinds: {set(KINDS)}, and not {set(kinds)}")
     for kind, keys in kinds.items():
@@ -1252,18 +1252,19 @@ def compare_program(program):
 
 
 def compare_page():
-    """The blocks of Python in docs/library.md, and in the package's README, print what stands in their
-    comments."""
-    pages = read("docs", "library.md").decode(), read("python", "README.md").decode()
+    """The blocks of Python in docs/python.md, docs/bus.md and the package's README print what stands in
+    their comments."""
+    names = ("docs", "python.md"), ("docs", "bus.md"), ("python", "README.md")
+    pages = [read(*name).decode() for name in names]
     blocks = [each for page in pages for each in re.findall("(?ms)^```python\n(.*?)^```$", page)]
-    check(len(blocks) >= 3, f"docs/library.md and python/README.md have {len(blocks)} blocks of Python")
+    check(len(blocks) >= 3, f"the pages have {len(blocks)} blocks of Python")
     for block in blocks:
         if "Reader" in block and not has_readers():
             continue
         printed = io.StringIO()
         with contextlib.redirect_stdout(printed):
             # (a file's own name, for what is found by it, such as classes that are pickled)
-            exec(compile(block, "docs/library.md", "exec"), {"__name__": "page"})
+            exec(compile(block, "docs/python.md", "exec"), {"__name__": "page"})
         right = re.findall("(?m)^ *print\\(.*  # (.*)$", block)
         check(right != [] and printed.getvalue().splitlines() == right, f"{block}{printed.getvalue()}")
 

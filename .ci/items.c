@@ -1,6 +1,6 @@
 /* Calls pmb_reader_open_items, pmb_reader_next and pmb_reason_name of pmb.h: the layout of an item;
  * captures with the fields of each of their items, which were worked out by hand from docs/packets.md,
- * docs/numbers.md and docs/json.md, however a capture is cut; the longest legs; closed handles, readers of
+ * docs/errors.md, docs/numbers.md and docs/json.md, however a capture is cut; the longest legs; closed handles, readers of
  * the other kind and handles of other things; and, with REFUSES defined and the linker's --wrap of malloc,
  * realloc and free, with each allocation refused. C99 and C++. */
 #include <stddef.h>

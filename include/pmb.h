@@ -217,8 +217,7 @@ int32_t pmb_bit_name(uint8_t code, uint8_t bit, char *text, size_t room, size_t 
  * Returns PMB_NO_NAME, or else PMB_NO_ROOM. */
 int32_t pmb_status_name(int32_t status, char *text, size_t room, size_t *length);
 
-/* Why an event is refused: the first of these that holds (docs/packets.md, "Refusals, and their
- * reasons"). */
+/* Why an event is refused: the first of these that holds (docs/errors.md has each with an example). */
 enum pmb_reason {
     /* The first byte of a packet is an address for reading. */
     PMB_REASON_READ_FIRST = 1,
@@ -285,8 +284,9 @@ int32_t pmb_lex_end(pmb_lexer *lexer, pmb_event *event);
 /* ---- whole inputs
  *
  * Each of these writes what the subcommand of `pmb` of that name writes, of an input that is in memory
- * as a whole; but for pmb_import under a profile: a TOML document, docs/profiles.md. Captures, lines,
- * requests and recordings are those of docs/text.md. For each function:
+ * as a whole; but for pmb_import under a profile: a TOML document, docs/profiles.md. Captures and lines
+ * are those of docs/text.md, requests those of docs/requests.md, and recordings those of docs/import.md.
+ * For each function:
  *  - It returns how many bytes the text has, also where they don't fit. What fits stands at the start
  *    of the room, without a NUL, and the rest of the room stays. With a room of 0 bytes only the
  *    length is found.
@@ -299,7 +299,7 @@ int32_t pmb_lex_end(pmb_lexer *lexer, pmb_event *event);
  *  - Of the C library it calls malloc, realloc, free, memcpy, memmove and memset.
  */
 
-/* What is wrong with a profile (docs/profiles.md has the rules in their order). */
+/* What is wrong with a profile (docs/mistakes.md has the rules in their order). */
 enum pmb_fault {
     PMB_NOT_TOML = 1,
     PMB_UNKNOWN_KEY = 2,

@@ -14,10 +14,10 @@ from program import name_of, short, tells_fault
 
 # The longest profile that is read.
 LIMIT = 1_048_576
-# Processor time: docs/profiles.md says two seconds, which other work on the machine can double. Most
+# Processor time: docs/mistakes.md says two seconds, which other work on the machine can double. Most
 # take a tenth of it.
 SECONDS = 4.0
-# docs/profiles.md says 41 MB at most, but for the profiles below.
+# docs/mistakes.md says 41 MB at most, but for the profiles below.
 PEAK_KILOBYTES = 64_000
 PEAKS_OF_SOME = {
     "arrays, 78 deep, side by side": 100_000,
@@ -343,7 +343,7 @@ def hostile_profiles(program, report):
 
 # What may stand where a byte was.
 BYTES = [bytes([it]) for it in b" \n\r\t#\"'=[]{}.,_-+019afxzAZ%\\\0\x80\xff"]
-# The names of docs/profiles.md.
+# The names of docs/mistakes.md.
 FAULTS = set(b"""NotToml UnknownKey MissingKey WrongType TooManyDevices BadAddress AddressTwice BadPages
     BadName UnknownName BadValue CodeTwice BadForm BadCoefficients BadInitial""".split())
 

@@ -1,4 +1,4 @@
-"""Simulated devices and the requests made of them, by docs/devices.md and docs/text.md."""
+"""Simulated devices and the requests made of them, by docs/devices.md and docs/requests.md."""
 
 from . import numbers
 from .lines import Ask, Get, Set

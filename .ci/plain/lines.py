@@ -1,4 +1,4 @@
-"""Lines of words, by docs/text.md: transaction lines, and the requests of `pmb run`."""
+"""Lines of words: transaction lines, by docs/text.md, and requests, by docs/requests.md."""
 
 import re
 from typing import NamedTuple

@@ -218,7 +218,7 @@ def number_within(bits, word):
 
 
 def format_of(word):
-    """The format that FORMAT names (docs/text.md)."""
+    """The format that FORMAT names (docs/program.md)."""
     if word == "linear11":
         return ("linear11",)
     exponent = re.fullmatch(r"(linear11|ulinear16|slinear16):(-?[0-9]+)", word)

@@ -1,5 +1,5 @@
-"""Profiles, by docs/profiles.md, whose tables of standard commands and status bits are read from
-that page. The profiles that rows are tried under stand here twice, as data and as texts. How TOML
+"""Profiles, by docs/keys.md, and by docs/profiles.md, whose tables of standard commands and status bits
+are read from that page. The profiles that rows are tried under stand here twice, as data and as texts. How TOML
 is read is not said here."""
 
 import os

@@ -1,4 +1,4 @@
-"""What the program does with its words and its input, by docs/text.md."""
+"""What the program does with its words and its input, by docs/program.md and docs/requests.md."""
 
 import re
 

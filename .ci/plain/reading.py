@@ -1,4 +1,4 @@
-"""How a capture is read, by docs/packets.md: its packets and refusals, in order."""
+"""How a capture is read, by docs/packets.md and docs/errors.md: its packets and refusals, in order."""
 
 import re
 from typing import NamedTuple

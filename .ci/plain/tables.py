@@ -1,4 +1,4 @@
-"""What a profile's TOML table says, by docs/profiles.md: the profile, or its first fault with its
+"""What a profile's TOML table says, by docs/keys.md and docs/mistakes.md: the profile, or its first fault with its
 place. A table is a dict here, an array a list; how TOML is read is not told."""
 
 import re

@@ -53,7 +53,7 @@ from ._worker import Answer, Job, Start
 
 __all__ = ["main"]
 
-# The exit statuses of docs/text.md, and the launcher's where there is nothing to run.
+# The exit statuses of docs/program.md, and the launcher's where there is nothing to run.
 _DONE, _FOUND, _WRONG, _UNREAD, _NO_MEMORY, _NOTHING_TO_RUN = 0, 1, 2, 3, 4, 125
 
 

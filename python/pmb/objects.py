@@ -36,7 +36,7 @@ __all__ = [
     "Write",
 ]
 
-# Why a packet can't continue: docs/packets.md has the reasons.
+# Why a packet can't continue: docs/errors.md has the reasons.
 _Reason = Literal[
     "ReadFirst",
     "BadRestart",
