@@ -201,7 +201,8 @@ each_file() {
     # (what is removed may have been made by another clone)
     if [ "$1" = remove ] || { [ -e i2cd/out/pmb-i2cd ] && [ -e i2cd/out/libpmb-i2cdev.so ]; }; then
         "$1" 755 i2cd/out/pmb-i2cd "$BINDIR/pmb-i2cd" &&
-            "$1" 755 i2cd/out/libpmb-i2cdev.so "$LIBDIR/libpmb-i2cdev.so"
+            "$1" 755 i2cd/out/libpmb-i2cdev.so "$LIBDIR/libpmb-i2cdev.so" &&
+            "$1" 644 i2cd/pmb-i2cd.1 "$MANDIR/man1/pmb-i2cd.1"
     fi
 }
 
