@@ -202,6 +202,7 @@ ends 0 "^$temporary/plain/libpmb-i2cdev.so\$" sh -c 'cd "$1" && shift && "$@"' s
 cp -R install.sh include man "$temporary/clone" &&
     cp -R release/pmb release/libpmb.* release/SHA256SUMS release/abi release/templates \
         "$temporary/clone/release" &&
+    cp i2cd/pmb-i2cd.1 "$temporary/clone/i2cd" &&
     cp "$temporary/plain/pmb-i2cd" "$temporary/plain/libpmb-i2cdev.so" "$temporary/clone/i2cd/out"
 for libraries in lib lib64 lib/x86_64-linux-gnu; do
     put=$temporary/put/$libraries
