@@ -273,9 +273,92 @@ static int readers(void)
     return 0;
 }
 
+#ifdef REFUSES
+/* ---- what is given back */
+
+/* A profile of so many devices, each with so many pages and phases. */
+static size_t sized_profile(char *text, size_t room, int count, int pages, int phases)
+{
+    size_t length = count == 0 ? (size_t)snprintf(text, room, "device = []\n") : 0;
+    int i;
+    for (i = 0; i < count; i++)
+        length += (size_t)snprintf(text + length, room - length,
+                                   "[[device]]\naddress = %d\npec = \"off\"\npages = %d\nphases = %d\n",
+                                   0x10 + i, pages, phases);
+    return length;
+}
+
+/* Handles of each kind over a profile and a capture that comes in pieces, each opened over an open one
+ * too and closed with something left in it, the profile first: no block stays. */
+static int all_given_back(const char *text, size_t length, const char *given, size_t size,
+                          const pmb_choice *choice, const uint8_t *asked, size_t count)
+{
+    static char out[1 << 16];
+    pmb_profile profile = {0}, other = {0};
+    pmb_reader reader = {0};
+    pmb_bus bus = {0};
+    pmb_result told;
+    pmb_item item;
+    const size_t piece = 1 + size / 3;
+    size_t used, i;
+    allocations = 0, counting = 1;
+    for (i = 0; i < 2; i++) {
+        EXPECT(pmb_profile_open(&profile, text, length, &told) == PMB_OK);
+        EXPECT(pmb_profile_share(&profile, &other) == PMB_OK);
+        pmb_profile_show(&other, given, size, out, sizeof out, &told);
+        pmb_profile_json(&other, given, size, choice, asked, count, out, sizeof out, &told);
+        EXPECT(told.status != PMB_NO_MEMORY);
+        EXPECT(pmb_reader_open_items(&reader, &profile, choice, asked, count) == PMB_OK);
+        for (used = 0; used + piece < size; used += piece) {
+            EXPECT(pmb_reader_feed(&reader, given + used, piece) != PMB_NO_MEMORY);
+            pmb_reader_next(&reader, &item, &told);
+        }
+        EXPECT(pmb_reader_open(&reader, &other, choice, asked, count) == PMB_OK);
+        for (used = 0; used + piece < size; used += piece) {
+            EXPECT(pmb_reader_feed(&reader, given + used, piece) != PMB_NO_MEMORY);
+            pmb_reader_take(&reader, out, piece, &told);
+        }
+        EXPECT(pmb_bus_open(&bus, &other) == PMB_OK);
+        pmb_bus_request(&bus, "get 10 88", 9, &told);
+        EXPECT(told.status == PMB_OK);
+        pmb_bus_events(&bus, out, 3, &told);
+    }
+    EXPECT(allocations > 10 && live > 3);
+    pmb_profile_close(&profile);
+    pmb_profile_close(&other);
+    EXPECT(live > 1);
+    pmb_reader_close(&reader);
+    pmb_bus_close(&bus);
+    counting = 0;
+    EXPECT(live == 0);
+    return 0;
+}
+
+/* The same for devices, pages and phases, digits, devices asked for and captures of many sizes. */
+static int sizes(void)
+{
+    static const int devices_of[] = {0, 1, 2, 7, 64}, pages_of[] = {1, 2, 32}, phases_of[] = {1, 3, 255};
+    static const size_t times[] = {0, 1, 2, 9, 100};
+    static char text[1 << 14], given[101 * sizeof capture];
+    static uint8_t asked[64];
+    size_t i, k, m, size;
+    for (i = 0; i < sizeof asked; i++) asked[i] = (uint8_t)(0x10 + i);
+    for (i = 0; i < 15; i++) {
+        const size_t length =
+            sized_profile(text, sizeof text, devices_of[i % 5], pages_of[i / 5], phases_of[i / 5]);
+        EXPECT(length < sizeof text);
+        for (k = 0; k < 5; k++) {
+            const pmb_choice choice = {(uint8_t)((5 * i + k) % 13), (uint8_t)(i % 3), PMB_GO_ON};
+            for (size = 0, m = 0; m < times[k]; m++, size += sizeof capture)
+                memcpy(given + size, capture, sizeof capture - 1), given[size + sizeof capture - 1] = '\n';
+            if (all_given_back(text, length, given, size, &choice, asked, times[k] % 65)) return 1;
+        }
+    }
+    return 0;
+}
+
 /* ---- each allocation refused */
 
-#ifdef REFUSES
 /* A round with handles, in which the allocation of the number `refused` is refused. */
 static int refused_round(int *was_whole)
 {
@@ -379,7 +462,7 @@ int main(void)
 {
     if (profiles() || closed() || readers() || threads()) return 1;
 #ifdef REFUSES
-    if (refusals()) return 1;
+    if (sizes() || refusals()) return 1;
 #endif
     (void)counting, (void)later, (void)allocations, (void)live, (void)refused;
     return 0;

@@ -57,10 +57,13 @@ class Known:
             self.tell(transaction.address, transaction.code, transaction.reply)
 
     def drop_line(self):
-        """A line was dropped, and may have set any of them: what was told is not known any more."""
+        """A line was dropped, and may have set any of them: what was told is not known any more. Where the
+        capture is read from its begin, PAGE and VOUT_MODE go on, but for a PAGE that the device lacks."""
         self.phases = dict.fromkeys(self.phases)
-        if self.is_late:
-            self.pages = dict.fromkeys(self.pages)
+        for address, page in self.pages.items():
+            is_own = page == ALL_PAGES or page is not None and page < len(self.modes[address])
+            if self.is_late or not is_own:
+                self.pages[address] = None
         if self.is_told:
             self.modes = {address: [None] * len(modes) for address, modes in self.modes.items()}
 

@@ -147,7 +147,7 @@ class Lines:
             way = voltages.way_of(self.known, device, entry)
         except numbers.Fault as fault:
             return digits(data) + " (%s)" % self.reason(device, str(fault), mode)
-        is_assumed = self.told.mode(device.address) == UNKNOWN
+        is_assumed = voltages.is_unknown(self.told, device, entry)
         mark = " (VOUT_MODE %02x assumed)" % mode if is_assumed else ""
         return self.number(way, entry, data, mark)
 

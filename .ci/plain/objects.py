@@ -4,7 +4,7 @@ from functools import partial
 from typing import NamedTuple, Optional
 
 from . import meaning, numbers, packets, reading, voltages
-from .known import UNKNOWN, Known
+from .known import Known
 from .packets import ACK, ALERT, START, STOP, Alert, Call, NoAlert, Refused, Write
 from .profiles import ALL_PAGES
 from .times import last_time
@@ -125,6 +125,8 @@ class Objects:
             if entry.paged:
                 page = self.known.pages[address]
                 members.append(("page", texts.get(page, str(page))))
+                if page is not None and self.told.pages[address] is None and device.pages > 1:
+                    members.append(("page_mode", string("assumed")))
             if device.has_phases(entry):
                 phase = self.known.phases[address]
                 members.append(("phase", texts.get(phase, str(phase))))
@@ -169,8 +171,9 @@ class Objects:
         return voltages.Way(entry.number_format(), False)
 
     def is_assumed(self, device, entry):
-        """Whether a number rests on a VOUT_MODE that was not told."""
-        return entry.is_voltage() and self.told.mode(device.address) == UNKNOWN
+        """Whether a number rests on a VOUT_MODE that was not told, or on a VID table that goes by a PAGE that
+        was not."""
+        return entry.is_voltage() and voltages.is_unknown(self.told, device, entry)
 
     # packets
 

@@ -41,6 +41,15 @@ def way_of(known, device, entry):
     return Way(numbers.vout_format(mode & 0x7F, is_signed, device.vout_direct), is_ratio)
 
 
+def is_unknown(known, device, entry):
+    """Whether it isn't known how a word is read."""
+    try:
+        way_of(known, device, entry)
+    except Fault as fault:
+        return str(fault) == UNKNOWN
+    return False
+
+
 def table_of(known, device, mode):
     """The name of the VID table."""
     if device.vid is None:

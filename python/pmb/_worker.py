@@ -445,13 +445,36 @@ def reduced(told: List[Told], words: List[str]) -> List[Told]:
     last = len(told) - 1 - told[::-1].index(_LOST)
     before = [it for it in told[:last] if it[1] in ("page", "mode", "lost")]
     if "--late" not in words:
-        # (PAGE and VOUT_MODE stay; PHASE is unknown)
-        kept = _reduced_each([it for it in before if it != _LOST])
+        # (PAGE and VOUT_MODE stay, but a PAGE that its device lacks is unknown; PHASE is unknown)
+        kept = _pages_and_modes(before)
     elif "--fixed-vout-mode" in words:
         kept = _modes_that_stay(before)
     else:
         kept = []
     return [*kept, _LOST, *_reduced_each(told[last + 1 :])]
+
+
+def _pages_and_modes(told: List[Told]) -> List[Told]:
+    """What counts for PAGE and VOUT_MODE without --late: where something was lost, both stay, but a PAGE
+    that its device lacks is unknown. That makes a difference to a VOUT_MODE that is told then. (No device
+    lacks page 0 or ffh. Which other pages one has, and what its PAGE was before, isn't known here.)"""
+    needed = set()
+    for device in {it[0] for it in told if it != _LOST}:
+        may_lack, lost = True, None
+        for at, it in enumerate(told):
+            if it == _LOST:
+                if may_lack and lost is None:
+                    lost = at
+            elif it[:2] == (device, "page"):
+                may_lack, lost = it[2] not in ("00", "ff"), None
+            elif it[:2] == (device, "mode") and lost is not None:
+                needed.add(lost)
+    kept: List[Told] = []
+    begun = 0
+    for at in sorted(needed):
+        kept += [*_reduced_each([it for it in told[begun:at] if it != _LOST]), _LOST]
+        begun = at
+    return kept + _reduced_each([it for it in told[begun:] if it != _LOST])
 
 
 def _modes_that_stay(told: List[Told]) -> List[Told]:

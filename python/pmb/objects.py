@@ -79,6 +79,7 @@ class _Name(TypedDict, total=False):
 
 class _Page(_Name, total=False):
     page: Union[int, Literal["all"], None]
+    page_mode: Literal["assumed"]
     phase: Union[int, Literal["all"], None]
 
 

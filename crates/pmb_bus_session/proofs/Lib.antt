@@ -1,2 +1,3 @@
 mod Made
+mod Standing
 mod Stopped

@@ -1,5 +1,6 @@
--- Where no transfer is under way after a message, the bus stands between two.
-use Rattle.std.proofs.Common.{◌≡◌, ◌∙◌, ℕ, Bool, true, false, Result, Ok, Err, List, [], map, length, take, ap, refl, subst, sym}
+-- A message leaves the bus of the same devices somewhere; where no transfer is under way after it, between two.
+use Rattle.std.proofs.Common.{◌≡◌, ◌∙◌, ℕ, Bool, true, false, Result, Ok, Err, List, [], map, length, take, ap, refl, subst, sym, true≢false}
+use Rattle.pmb_command.specs.Parts.{DeviceParts}
 use Rattle.std.specs.Prelude.{is_err}
 use Rattle.pmb_bus.specs.Address.{read_address, write_address}
 use Rattle.pmb_bus.specs.declared.event.Event.{Event}
@@ -10,7 +11,7 @@ use Rattle.pmb_i2c.specs.declared.message.MessageEnd.TheVariants as ends
 use Rattle.pmb_i2c.specs.declared.message.MessageFault.{MessageFault}
 use Rattle.pmb_i2c.specs.Message.{ReadsAll, ReadsCounted, Writes, stops}
 use Rattle.pmb_i2c.specs.Signals.{IsStopped}
-use Rattle.pmb_i2c.proofs.Stops.{message_stops}
+use Rattle.pmb_i2c.proofs.Stops.{Somewhere, message_stops, takes_on}
 use Rattle.pmb_message.specs.declared.message.Message.{Message}
 use Rattle.pmb_message.specs.declared.message.SendFault.{SendFault}
 use Rattle.pmb_message.specs.declared.message.SendFault.TheVariants.{BadAddress, BadFlags, BadLength}
@@ -81,3 +82,23 @@ module _ (message : Message) (before after : List ℕ) (old new : Bus) (events :
       (block_ends was message.end outcome
       (ap (λ (r : Result ℕ SendFault). under_way_after was message.end r) (sym is) ∙ over)) sent.such
       (sent.takes standing stands)
+
+  pub moves : Sends message before after old new events result → BusStandsAt old standing
+      → Somewhere (map (λ member. member.device) standing.members) new
+  moves (Sends.nothing why unsent is same room none) stands =
+      (standing, subst (λ (bus : Bus). BusStandsAt bus standing) (sym same) stands, refl)
+  moves (Sends.write outcome ready flags room is sent) stands =
+      takes_on (map (λ member. member.device) standing.members) sent.heard standing new refl (sent.takes standing stands)
+  moves (Sends.read outcome ready flags room is sent) stands =
+      takes_on (map (λ member. member.device) standing.members) sent.heard standing new refl (sent.takes standing stands)
+  moves (Sends.read_block outcome ready flags room is sent) stands =
+      takes_on (map (λ member. member.device) standing.members) sent.heard standing new refl (sent.takes standing stands)
+
+-- somewhere, and between two transfers where none is under way
+pub stands_on : (devices : List DeviceParts) (bus : Bus) (under_way : Bool) → Somewhere devices bus
+    → (under_way ≡ false → IsStopped devices bus)
+    → (standing : BusStanding) × BusStandsAt bus standing × (map (λ member. member.device) standing.members ≡ devices)
+    × (under_way ≡ false → standing.history ≡ [])
+stands_on devices bus false there stopped =
+    let over = stopped refl in (over.standing, over.stands, over.devices_are, λ is. over.none)
+stands_on devices bus true there stopped = (there.0, there.1, there.2, λ is. absurd (true≢false is))

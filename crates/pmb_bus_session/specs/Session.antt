@@ -1,5 +1,5 @@
 -- What a session is asked, and what comes of it.
-use Rattle.std.specs.Prelude.{◌≡◌, ◌⊎◌, true, false, Option, Some, None, Result, Ok, Err, ℕ, ◌+◌, List, [], ◌++◌, drop, length, min}
+use Rattle.std.specs.Prelude.{◌≡◌, ◌⊎◌, true, false, Option, Some, None, Result, Ok, Err, ℕ, ◌+◌, ◌*◌, ◌≤◌, List, [], ◌++◌, drop, length, min}
 use Rattle.std.specs.Prelude.{take, option_map}
 use Rattle.std.specs.Arc.{arc_value}
 use Rattle.std.specs.Prelude.{Box}
@@ -20,7 +20,8 @@ use Rattle.pmb_run.specs.machine.Bench.{BenchStands, bench_profile}
 use Rattle.pmb_run.specs.machine.Running.{IsSaid, counted_in}
 use Rattle.pmb_io.specs.Count.{capped}
 use Rattle.pmb_io.specs.Lines.{TextLine}
-use Rattle.pmb_bus_session.specs.Devices.{DevicesSend, OpensFresh}
+use Rattle.pmb_bus_session.specs.Devices.{DevicesSend, DevicesStand, OpensFresh}
+use Rattle.pmb_bus_session.specs.Log.{log_kept}
 use Rattle.pmb_bus_session.specs.declared.devices.Devices.{Devices}
 use Rattle.pmb_bus_session.specs.declared.session.BusGround.{BusGround}
 use Rattle.pmb_bus_session.specs.declared.session.BusSession.{BusSession}
@@ -40,6 +41,20 @@ session_devices session = option_map (λ (it : Box Devices Global). it.value) se
 -- the text that was not taken yet
 abbrev pub session_log : BusSession → List ℕ
 session_log session = session.log.left
+
+-- how many bytes of text are kept, those included that were taken
+abbrev pub session_kept : BusSession → ℕ
+session_kept session = log_kept session.log
+
+-- No more bytes are kept than before, or at most twice as many as were not taken yet.
+abbrev pub KeepsFew : BusSession → BusSession → Type 0
+KeepsFew old new = (session_kept new ≤ session_kept old) ⊎ (session_kept new ≤ 2 * length (session_log new))
+
+-- Its devices, if they are made, stand somewhere. By `laws::sessions_stand` each session does.
+abbrev pub SessionStands : BusSession → Type 0
+SessionStands session =
+    (devices : Devices) → session_devices session ≡ Some devices
+    → (place : Standing) × (ts : List TransactionData) × DevicesStand devices place ts
 
 -- On this ground nothing was asked yet.
 pub record StandsFresh (ground : BusGround) (session : BusSession) : Type 0 where
@@ -127,6 +142,18 @@ pub record MovesText (before after : List ℕ) (old new : BusSession) (answer : 
 abbrev pub IsUnderWay : Devices → Type 0
 IsUnderWay devices = devices.is_under_way ≡ true
 
+-- No request is taken: a transfer is under way, or what was read doesn't end between two packets.
+abbrev pub IsBusy : Devices → Type 0
+IsBusy devices =
+    IsUnderWay devices ⊎ ((place : Standing)
+    → ReaderStandsAt (bench_profile devices.runner.bench) devices.runner.bench.reader place → ¬ (IsBetween place))
+
+-- A request is taken: no transfer is under way, and what was read ends between two packets.
+pub record IsFree (devices : Devices) : Type 0 where
+  pub ended : devices.is_under_way ≡ false
+  pub between : (place : Standing)
+      → ReaderStandsAt (bench_profile devices.runner.bench) devices.runner.bench.reader place → IsBetween place
+
 -- What was run of a line: the answer, its text after what was there, and what it made of the devices.
 pub record Ran (line : List ℕ) (members : List InState) (ts : List TransactionData) (was now : Devices)
     (log_old log_new : List ℕ) (tally : Tally) : Type 0 where
@@ -147,21 +174,30 @@ RunsLine line was now log_old log_new tally =
     (members : List InState) (ts : List TransactionData) → BenchStands was.runner.bench members ts
     → Ran line members ts was now log_old log_new tally
 
--- There are no devices; a transfer is under way; there is no memory for its text, and nothing was sent; or it was
--- run, and no transfer is under way after it. There is room for the longest text, 32,768 bytes. Should one be longer
+-- There are no devices; they are busy; there is no memory for its text, and nothing was sent; or it was run, and no
+-- transfer is under way after it. There is room for the longest text, 32,768 bytes. Should one be longer
 -- nevertheless, the devices are gone.
 pub data Requests (line : List ℕ) (old new : BusSession) (answer : BusAnswer) : Type 0 where
   closed : session_devices old ≡ None → StaysSo old new → answer ≡ plain Closed → Requests line old new answer
-  busy : (devices : Devices) → session_devices old ≡ Some devices
-      → IsUnderWay devices ⊎ ((standing : Standing)
-      → ReaderStandsAt (bench_profile devices.runner.bench) devices.runner.bench.reader standing → ¬ (IsBetween standing))
-      → StaysSo old new → answer ≡ plain Busy → Requests line old new answer
-  no_memory : (devices : Devices) → session_devices old ≡ Some devices → devices.is_under_way ≡ false → StaysSo old new
+  busy : (devices : Devices) → session_devices old ≡ Some devices → IsBusy devices → StaysSo old new
+      → answer ≡ plain Busy → Requests line old new answer
+  no_memory : (devices : Devices) → session_devices old ≡ Some devices → IsFree devices → StaysSo old new
       → answer ≡ plain Memory → Requests line old new answer
-  gone : (was : Devices) → session_devices old ≡ Some was → was.is_under_way ≡ false → session_devices new ≡ None
+  gone : (was : Devices) → session_devices old ≡ Some was → IsFree was → session_devices new ≡ None
       → session_profile new ≡ session_profile old → session_log new ≡ session_log old → answer ≡ plain Memory
       → Requests line old new answer
   run : (was now : Devices) → session_devices old ≡ Some was → session_devices new ≡ Some now
-      → was.is_under_way ≡ false → now.is_under_way ≡ false → session_profile new ≡ session_profile old
+      → IsFree was → now.is_under_way ≡ false → session_profile new ≡ session_profile old
       → RunsLine line was now (session_log old) (session_log new) answer.tally → answer ≡ done_with answer.tally
       → Requests line old new answer
+
+-- The devices stood between two packets, and the request of a line has the answer of `run` on them.
+pub record RunsThere (line : List ℕ) (old new : BusSession) (answer : BusAnswer) : Type 0 where
+  pub was : Devices
+  pub now : Devices
+  pub was_there : session_devices old ≡ Some was
+  pub there : session_devices new ≡ Some now
+  pub members : List InState
+  pub ts : List TransactionData
+  pub stood : BenchStands was.runner.bench members ts
+  pub ran : Ran line members ts was now (session_log old) (session_log new) answer.tally

@@ -2,11 +2,9 @@
 //!
 //! Its rows: `tests_host`, `src/session.rt`.
 
-ghost use Rattle.std.specs.Prelude.{◌≡◌, ◌≤◌, ◌⊎◌, [], false, length, IfSome, IsFalse, IsTrue, IfOk};
-ghost use Rattle.pmb_reader.specs.Reader.{IsBetween, ReaderStandsAt, Standing};
-ghost use Rattle.pmb_run.specs.machine.Bench.{bench_profile};
+ghost use Rattle.std.specs.Prelude.{◌≡◌, ◌≤◌, [], length, IfSome, IsFalse, IsTrue, IfOk};
 ghost use Rattle.pmb_bus_session.specs.Devices.{DevicesSend, OpensFresh, request_text, under_way_after};
-ghost use Rattle.pmb_bus_session.specs.Session.{IsUnderWay, RunsLine};
+ghost use Rattle.pmb_bus_session.specs.Session.{IsBusy, IsFree, RunsLine};
 
 use crate::nowhere::Nowhere;
 use pmb_devices::Bus;
@@ -82,11 +80,10 @@ impl<'p> Devices<'p> {
         result
     }
 
-    /// Whether no request is taken now: a transfer is under way.
+    /// Whether no request is taken now: a transfer is under way, or what was read doesn't end between two packets.
     pub(crate) fn is_busy(&self) -> bool
-        ensures free { IsFalse result → self.now.is_under_way ≡ false }
-        ensures busy { IsTrue result → IsUnderWay self.now ⊎ ((standing : Standing)
-            → ReaderStandsAt (bench_profile self.now.runner.bench) self.now.runner.bench.reader standing → ¬ (IsBetween standing)) }
+        ensures free { IsFalse result → IsFree self.now }
+        ensures busy { IsTrue result → IsBusy self.now }
     {
         self.is_under_way || !self.runner.bench.is_between()
     }

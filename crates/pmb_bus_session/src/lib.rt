@@ -22,6 +22,7 @@
 #![tactic(auto)]
 
 mod devices;
+pub mod laws;
 mod log;
 mod nowhere;
 mod session;

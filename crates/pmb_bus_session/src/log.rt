@@ -23,7 +23,7 @@ impl Model for Log {
 
     ghost Value = { LogData };
 
-    ghost view = { λ log. record { left = drop log.taken log.text.items; room = vec_capacity log.text - vec_len log.text } };
+    ghost view = { λ log. record { left = drop log.taken log.text.items; taken = log.taken; room = vec_capacity log.text - vec_len log.text } };
 
     ghost invariant = { λ log. log.taken ≤ length log.text.items };
 }
@@ -31,7 +31,8 @@ impl Model for Log {
 impl Log {
     /// No text. It takes no memory.
     pub(crate) fn new(alloc: Global) -> Log
-        ensures { result.left ≡ [] }
+        ensures left { result.left ≡ [] }
+        ensures taken { result.taken ≡ 0 }
     {
         Log {
             text: Vec::new(alloc),
@@ -46,7 +47,7 @@ impl Log {
         self.text.len() - self.taken
     }
 
-    /// Makes room for so many bytes more.
+    /// Makes room for so many bytes more, and drops text that was taken: no more of it is kept than is left.
     ///
     /// # Errors
     ///
@@ -54,6 +55,7 @@ impl Log {
     pub(crate) fn reserve(&mut self, more: usize) -> Result<(), AllocError>
         ensures room { OnOk result (more ≤ self.new.room) }
         ensures left { self.new.left ≡ self.old.left }
+        ensures few { self.new.taken ≤ length self.new.left }
     {
         self.drop_taken();
         self.text.reserve(more)
@@ -62,7 +64,8 @@ impl Log {
     /// Moves the text that is left to the front, where at least as much was taken: so each byte is moved
     /// once for one that was taken.
     fn drop_taken(&mut self)
-        ensures { self.new.left ≡ self.old.left }
+        ensures left { self.new.left ≡ self.old.left }
+        ensures few { self.new.taken ≤ length self.new.left }
     {
         let all = self.text.len();
         let left = all - self.taken;
@@ -77,7 +80,8 @@ impl Log {
     /// Puts the text of events after what is left. There has to be room for it, three bytes an event.
     pub(crate) fn push_events(&mut self, events: &[Event])
         requires { 3 * length events.now ≤ self.old.room }
-        ensures { self.new.left ≡ self.old.left ++ canonical_text events.now }
+        ensures left { self.new.left ≡ self.old.left ++ canonical_text events.now }
+        ensures taken { self.new.taken ≡ self.old.taken }
     {
         for event in events {
             self.push_event(*event);
@@ -88,6 +92,7 @@ impl Log {
     fn push_event(&mut self, event: Event)
         requires { 3 ≤ self.old.room }
         ensures left { self.new.left ≡ self.old.left ++ text_of event }
+        ensures taken { self.new.taken ≡ self.old.taken }
         ensures room { self.old.room ≤ self.new.room + 3 }
     {
         let _ = self.text.extend_from_slice(event_text(event).as_bytes());
@@ -96,7 +101,8 @@ impl Log {
     /// Puts text after what is left. There has to be room for it.
     pub(crate) fn push_text(&mut self, text: &[u8])
         requires { length text.now ≤ self.old.room }
-        ensures { self.new.left ≡ self.old.left ++ text.now }
+        ensures left { self.new.left ≡ self.old.left ++ text.now }
+        ensures taken { self.new.taken ≡ self.old.taken }
     {
         let _ = self.text.extend_from_slice(text);
     }
@@ -106,6 +112,7 @@ impl Log {
         ensures count { result ≡ min (length self.old.left) (length room.old) }
         ensures room { room.new ≡ take result self.old.left ++ drop result room.old }
         ensures left { self.new.left ≡ drop result self.old.left }
+        ensures taken { self.new.taken ≡ self.old.taken + result }
     {
         let left = self.text.len() - self.taken;
         let count = left.min(room.len());

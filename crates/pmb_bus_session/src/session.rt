@@ -3,7 +3,7 @@
 //! Its rows: `tests_host`, `src/session.rt`.
 
 ghost use Rattle.std.specs.Prelude.{◌≡◌};
-ghost use Rattle.pmb_bus_session.specs.Session.{MovesText, Opens, Requests, SendsMessage, StandsFresh, answer_of, counted, done_with, plain, status_of};
+ghost use Rattle.pmb_bus_session.specs.Session.{KeepsFew, MovesText, Opens, Requests, SendsMessage, StandsFresh, answer_of, counted, done_with, plain, status_of};
 ghost use Rattle.pmb_bus_session.specs.Work.{Acts};
 
 use crate::devices::Devices;
@@ -58,6 +58,9 @@ impl<'p> BusSession<'p> {
     /// Does what is asked, and answers.
     pub fn act(&mut self, work: &mut BusWork<'_>)
         ensures acts { Acts self.old self.new work.old work.new }
+
+        // Text that was taken is dropped sooner or later.
+        ensures few { KeepsFew self.old self.new }
     {
         match work.task {
             BusTask::Open => self.answer_open(&mut work.answer),
@@ -69,7 +72,8 @@ impl<'p> BusSession<'p> {
 
     /// Makes the devices, where they are not made yet.
     fn answer_open(&mut self, answer: &mut BusAnswer)
-        ensures { Opens self.old self.new answer.new }
+        ensures opens { Opens self.old self.new answer.new }
+        ensures few { KeepsFew self.old self.new }
     {
         *answer = plain(BusStatus::Done);
         if self.devices.is_some() {
@@ -85,7 +89,8 @@ impl<'p> BusSession<'p> {
     /// request, so that making the devices takes less stack.
     #[inline(never)]
     fn answer_message(&mut self, message: Message, room: &mut [u8], answer: &mut BusAnswer)
-        ensures { SendsMessage message room.old room.new self.old self.new answer.new }
+        ensures sends { SendsMessage message room.old room.new self.old self.new answer.new }
+        ensures few { KeepsFew self.old self.new }
     {
         let Some(devices) = &mut self.devices else {
             *answer = plain(BusStatus::Closed);
@@ -104,7 +109,8 @@ impl<'p> BusSession<'p> {
     /// Runs the request of a line, between transfers.
     #[inline(never)]
     fn answer_request(&mut self, line: &[u8], answer: &mut BusAnswer)
-        ensures { Requests line.now self.old self.new answer.new }
+        ensures runs { Requests line.now self.old self.new answer.new }
+        ensures few { KeepsFew self.old self.new }
     {
         let Some(devices) = &mut self.devices else {
             *answer = plain(BusStatus::Closed);
@@ -133,7 +139,8 @@ impl<'p> BusSession<'p> {
 
     /// Moves text of the log into a room.
     fn answer_take(&mut self, room: &mut [u8], answer: &mut BusAnswer)
-        ensures { MovesText room.old room.new self.old self.new answer.new }
+        ensures moves { MovesText room.old room.new self.old self.new answer.new }
+        ensures few { KeepsFew self.old self.new }
     {
         let ready = self.log.len();
         let count = self.log.take(room);

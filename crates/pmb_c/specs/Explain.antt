@@ -1,6 +1,6 @@
 -- What is said of a profile's fault.
-use Rattle.std.specs.Prelude.{◌≡◌, ◌≢◌, ℕ, IfSome, Option, Result, Ok, Err, List, [], length}
-use Rattle.pmb_hints.specs.Place.{IsPlaceIn}
+use Rattle.std.specs.Prelude.{◌≡◌, ℕ, Option, Result, Ok, Err, List, length}
+use Rattle.pmb_hints.specs.Hints.{Explains as IsExplained}
 use Rattle.pmb_io.specs.Count.{capped}
 use Rattle.pmb_in_memory.specs.Laid.{laid}
 use Rattle.pmb_places.specs.declared.places.Place.{Place}
@@ -13,21 +13,19 @@ use Rattle.pmb_c.specs.declared.result.PmbResult.{PmbResult}
 use Rattle.pmb_firmware.specs.declared.call_status.CallStatus.TheVariants.{Done, NoMemory}
 use Rattle.pmb_c.specs.Result.{result_at, result_of_fault, result_of_status}
 
--- Some text stands in the room, as far as it fits, and this is its length. It is not empty. It is for
--- people, and no definition says which text it is.
-pub record IsLaid (before after : List ℕ) (count : ℕ) : Type 0 where
-  pub text : List ℕ
-  pub some : text ≢ []
-  pub room : after ≡ laid text before
-  pub counted : count ≡ capped (length text)
+-- a text stands in the room, as far as it fits, and this is its length
+abbrev pub IsLaid : List ℕ → List ℕ → List ℕ → ℕ → Type 0
+IsLaid text before after count = (after ≡ laid text before) × (count ≡ capped (length text))
 
--- The fault is told, with the length of its text, and its place in the profile where one is known.
+-- The text with which the fault is explained, with its hints, stands in the room. The fault is told with the
+-- text's length, and with the place that the text names, where it names one.
 pub record TellsFault (profile : List ℕ) (fault : ProfileFault) (before after : List ℕ) (told : PmbResult)
     : Type 0 where
-  pub count : ℕ
+  pub text : List ℕ
   pub place : Option Place
-  pub laid : IsLaid before after count
-  pub within : IfSome place (IsPlaceIn profile)
+  pub count : ℕ
+  pub explained : IsExplained profile fault text place
+  pub laid : IsLaid text before after count
   pub tells : told ≡ result_at place (result_of_fault fault count)
 
 -- only a fault has a text

@@ -1,6 +1,6 @@
 //! Hints for mistakes in a profile, in the caller's buffer.
 
-ghost use Rattle.std.specs.Prelude.{◌≡◌, ◌≢◌, []};
+ghost use Rattle.std.specs.Prelude.{◌≡◌};
 ghost use Rattle.pmb_c.specs.Explain.{Explains, IsLaid, TellsFault};
 
 use crate::result::PmbResult;
@@ -43,19 +43,17 @@ fn explained(alloc: Global, profile: &[u8], fault: ProfileFault, room: &mut [u8]
 
 /// Puts lines into the room as far as they fit, and returns how many bytes they have.
 fn put_lines(lines: &[u8], room: &mut [u8]) -> usize
-    requires some { lines.now ≢ [] }
-    ensures { IsLaid room.old room.new result }
+    ensures { IsLaid lines.now room.old room.new result }
 {
     put_lines_at::<Brand>(lines, room).count
 }
 
 /// Puts the lines into the room of a place.
 fn put_lines_at<'r, P: BufferId>(lines: &[u8], room: &'r mut [u8]) -> Filled<'r>
-    requires some { lines.now ≢ [] }
     requires same { room.ghost_name ≡ P.name }
     requires before { room.old ≡ P.before }
     ensures same { result.room.ghost_name ≡ room.entry.ghost_name }
-    ensures laid { IsLaid room.old result.room.now result.count }
+    ensures laid { IsLaid lines.now room.old result.room.now result.count }
 {
     let mut writer: Room<'r, P> = Room::new(room);
     let _ = writer.write_all(lines);

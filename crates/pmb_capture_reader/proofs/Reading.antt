@@ -1,6 +1,7 @@
 -- What a reader has told after a call: for `tell_piece`, `tell_end`, `feed_more`, `end_more` and `take`. What
 -- was ready before a call, what the call made, and what is ready after it are joined in each state.
 use Rattle.std.proofs.Common.{◌≡◌, ◌≢◌, ◌∙◌, ℕ, Some, List, [], ◌++◌, append_assoc, append-nil, ap, refl, subst, sym}
+use Rattle.pmb_capture_reader.specs.Queue.{QueueData}
 use Rattle.pmb_capture_reader.specs.Reader.{ReaderStands, Tells, reader_ready, reader_state, reader_tally}
 use Rattle.pmb_capture_reader.specs.declared.reader.CaptureReader.{CaptureReader}
 use Rattle.pmb_capture_reader.specs.declared.reader.Fed.{Fed}
@@ -124,12 +125,12 @@ module _ (choice : ChoiceData) (profile : List DeviceParts) (after : AfterBadTok
   -- ---- what was taken
 
   -- of what was told so much more was taken, and the rest is ready
-  pub takes_some : (given taken : List ℕ) (old : CaptureReader) (moved left : List ℕ)
-      → reader_ready old ≡ moved ++ left → ReaderStands choice profile after given taken old
-      → ReaderStands choice profile after given (taken ++ moved) (record old { queue = left })
-  takes_some given taken old moved left is stands =
-      let same : taken ++ reader_ready old ≡ (taken ++ moved) ++ left =
-      ap (λ (l : List ℕ). taken ++ l) is ∙ sym (append_assoc taken moved left) in record {
+  pub takes_some : (given taken : List ℕ) (old : CaptureReader) (moved : List ℕ) (queue : QueueData)
+      → reader_ready old ≡ moved ++ queue.left → ReaderStands choice profile after given taken old
+      → ReaderStands choice profile after given (taken ++ moved) (record old { queue = queue })
+  takes_some given taken old moved queue is stands =
+      let same : taken ++ reader_ready old ≡ (taken ++ moved) ++ queue.left =
+      ap (λ (l : List ℕ). taken ++ l) is ∙ sym (append_assoc taken moved queue.left) in record {
         tells = subst (λ (l : List ℕ). Tells choice profile after (reader_state old) (reader_tally old) given l) same
             stands.tells;
         teller = λ more. subst (λ (l : List ℕ). TellerStands choice profile after old.teller given l) same

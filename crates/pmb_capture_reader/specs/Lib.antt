@@ -1,6 +1,7 @@
 pub mod Fed
 pub mod Ready
 pub mod Fresh
+pub mod Queue
 pub mod Reader
 pub mod Items
 pub mod Ground

@@ -1,5 +1,6 @@
 -- What a reader has told of the text that it was given, and what is ready of that.
-use Rattle.std.specs.Prelude.{◌≡◌, ℕ, List, ◌++◌}
+use Rattle.std.specs.Prelude.{◌≡◌, ◌≤◌, ◌⊎◌, ℕ, ◌*◌, List, ◌++◌, length}
+use Rattle.pmb_capture_reader.specs.Queue.{queue_kept}
 use Rattle.pmb_capture_reader.specs.declared.reader.CaptureReader.{CaptureReader}
 use Rattle.pmb_capture_reader.specs.declared.reader.Fed.{Fed}
 use Rattle.pmb_capture_reader.specs.declared.reader.Fed.TheVariants.{More, Ended, Memory}
@@ -17,7 +18,15 @@ reader_state reader = reader.state
 
 -- the bytes that are ready to be taken, the oldest first
 abbrev pub reader_ready : CaptureReader → List ℕ
-reader_ready reader = reader.queue
+reader_ready reader = reader.queue.left
+
+-- how many bytes it keeps for that, those included that were taken
+abbrev pub reader_kept : CaptureReader → ℕ
+reader_kept reader = queue_kept reader.queue
+
+-- No more bytes are kept than before, or at most twice as many as are ready.
+abbrev pub KeepsFew : CaptureReader → CaptureReader → Type 0
+KeepsFew old new = (reader_kept new ≤ reader_kept old) ⊎ (reader_kept new ≤ 2 * length (reader_ready new))
 
 -- how many packets it counted, and how many refusals and words that are no token
 abbrev pub reader_tally : CaptureReader → Tally

@@ -2,7 +2,7 @@
 use Rattle.std.specs.Prelude.{◌≡◌, ◌≢◌, ℕ, List, Some, [], ◌++◌, drop, length, min, take}
 use Rattle.pmb_capture_reader.specs.Fed.{given_with}
 use Rattle.pmb_capture_reader.specs.Ground.{ground_choice, ground_profile}
-use Rattle.pmb_capture_reader.specs.Reader.{ReaderStands, reader_ready, reader_state, reader_tally}
+use Rattle.pmb_capture_reader.specs.Reader.{KeepsFew, ReaderStands, reader_kept, reader_ready, reader_state, reader_tally}
 use Rattle.pmb_capture_reader.specs.Ready.{Begins}
 use Rattle.pmb_capture_reader.specs.declared.reader.CaptureReader.{CaptureReader}
 use Rattle.pmb_capture_reader.specs.declared.reader.Fed.TheVariants.{More, Ended, Memory}
@@ -21,6 +21,7 @@ pub record StandsFresh (ground : ReaderGround) (reader : CaptureReader) : Type 0
   pub stands : ReaderStands (ground_choice ground) (ground_profile ground) ground.bad_words [] [] reader
   pub more : reader_state reader ≡ More
   pub none : reader_ready reader ≡ []
+  pub kept : reader_kept reader ≡ 0
 
 -- What was ready stays so, and more comes after it, if memory isn't refused. A reader that takes nothing more stays
 -- as it is.
@@ -28,6 +29,7 @@ pub record Grows (old new : CaptureReader) : Type 0 where
   pub front : Begins (reader_ready old) (reader_ready new)
   pub refused : reader_state new ≡ Memory → reader_ready new ≡ reader_ready old
   pub over : reader_state old ≢ More → new ≡ old
+  pub few : KeepsFew old new
 
 -- A piece was given, where more was wanted. Where a word that is no token ends reading, what was told is also told of
 -- whatever follows.
@@ -58,6 +60,7 @@ pub record Takes (old : CaptureReader) (before : List ℕ) (new : CaptureReader)
   pub left : reader_ready old ≡ take moved after ++ reader_ready new
   pub state : reader_state new ≡ reader_state old
   pub tally : reader_tally new ≡ reader_tally old
+  pub few : KeepsFew old new
 
 -- what was done for a task with this piece, this room before and after, and so many bytes moved
 abbrev pub DoesFor : Task → CaptureReader → CaptureReader → List ℕ → List ℕ → List ℕ → ℕ → Type 0

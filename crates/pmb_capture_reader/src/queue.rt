@@ -2,7 +2,7 @@
 //!
 //! Its rows: `tests_tasks`, `src/capture_reader.rt`.
 
-ghost use Rattle.std.specs.Prelude.{◌≡◌, ◌++◌, [], drop, take, length, min, OnOk, OnErr};
+ghost use Rattle.std.specs.Prelude.{◌≡◌, ◌+◌, ◌≤◌, ◌++◌, [], drop, take, length, min, OnOk, OnErr};
 
 use std::alloc::{AllocError, Global};
 use std::marker::Model;
@@ -17,11 +17,12 @@ pub(crate) struct Queue {
 }
 
 impl Model for Queue {
-    ghost use Rattle.std.specs.Prelude.{◌≤◌, ℕ, List, drop, length};
+    ghost use Rattle.pmb_capture_reader.specs.Queue.{QueueData};
+    ghost use Rattle.std.specs.Prelude.{◌≤◌, drop, length};
 
-    ghost Value = { List ℕ };
+    ghost Value = { QueueData };
 
-    ghost view = { λ q. drop q.taken q.bytes.items };
+    ghost view = { λ q. record { left = drop q.taken q.bytes.items; taken = q.taken } };
 
     ghost invariant = { λ q. q.taken ≤ length q.bytes.items };
 }
@@ -29,7 +30,8 @@ impl Model for Queue {
 impl Queue {
     /// No bytes. It takes no memory.
     pub(crate) fn new(alloc: Global) -> Queue
-        ensures { result ≡ [] }
+        ensures left { result.left ≡ [] }
+        ensures taken { result.taken ≡ 0 }
     {
         Queue {
             bytes: Vec::new(alloc),
@@ -39,19 +41,21 @@ impl Queue {
 
     /// How many bytes are left.
     pub(crate) fn len(&self) -> usize
-        ensures { result ≡ length self.now }
+        ensures { result ≡ length self.now.left }
     {
         self.bytes.len() - self.taken
     }
 
-    /// Puts bytes after those that are left. What is in `more` afterwards is of no use.
+    /// Puts bytes after those that are left, and drops bytes that were taken: no more of them are kept than are
+    /// left. What is in `more` afterwards is of no use.
     ///
     /// # Errors
     ///
-    /// There was no memory. The queue stays as it was.
+    /// There was no memory. What is left stays as it was.
     pub(crate) fn append(&mut self, more: &mut Vec<u8>) -> Result<(), AllocError>
-        ensures ok { OnOk result (self.new ≡ self.old ++ more.old.items) }
-        ensures err { OnErr result (self.new ≡ self.old) }
+        ensures ok { OnOk result (self.new.left ≡ self.old.left ++ more.old.items) }
+        ensures err { OnErr result (self.new.left ≡ self.old.left) }
+        ensures few { self.new.taken ≤ length self.new.left }
     {
         if self.taken == self.bytes.len() {
             swap(&mut self.bytes, more);
@@ -65,7 +69,8 @@ impl Queue {
     /// Moves the bytes that are left to the front, where at least as many were taken: so each byte is
     /// moved once for one that was taken.
     fn drop_taken(&mut self)
-        ensures { self.new ≡ self.old }
+        ensures left { self.new.left ≡ self.old.left }
+        ensures few { self.new.taken ≤ length self.new.left }
     {
         let all = self.bytes.len();
         let left = all - self.taken;
@@ -79,9 +84,10 @@ impl Queue {
 
     /// Moves the oldest bytes to the front of a room, as far as they fit, and returns how many.
     pub(crate) fn take(&mut self, room: &mut [u8]) -> usize
-        ensures count { result ≡ min (length self.old) (length room.old) }
-        ensures room { room.new ≡ take result self.old ++ drop result room.old }
-        ensures left { self.new ≡ drop result self.old }
+        ensures count { result ≡ min (length self.old.left) (length room.old) }
+        ensures room { room.new ≡ take result self.old.left ++ drop result room.old }
+        ensures left { self.new.left ≡ drop result self.old.left }
+        ensures taken { self.new.taken ≡ self.old.taken + result }
     {
         let count = self.len().min(room.len());
         let end = self.taken + count;

@@ -9,7 +9,8 @@
 ghost use Rattle.std.specs.Prelude.{◌≡◌, ◌≢◌, ◌++◌, [], ℕ, IfOk, List, drop, take, length, min};
 ghost use Rattle.pmb_capture_reader.specs.Fed.{given_with};
 ghost use Rattle.pmb_capture_reader.specs.Fresh.{fresh_bytes};
-ghost use Rattle.pmb_capture_reader.specs.Reader.{ReaderStands, reader_ready, reader_state, reader_tally};
+ghost use Rattle.pmb_capture_reader.specs.Queue.{QueueKeepsFew};
+ghost use Rattle.pmb_capture_reader.specs.Reader.{KeepsFew, ReaderStands, reader_kept, reader_ready, reader_state, reader_tally};
 ghost use Rattle.pmb_capture_reader.specs.Ready.{Begins};
 ghost use Rattle.pmb_capture_reader.specs.Work.{StandsFresh};
 ghost use Rattle.pmb_capture_reader.specs.machine.Steps.{AfterPiece, AfterEnd, Gathers};
@@ -69,6 +70,7 @@ impl<'p> CaptureReader<'p> {
         ensures stands { IfOk result (λ reader. ReaderStands (choice_data choice.entry) profile.now bad_words [] [] reader) }
         ensures state { IfOk result (λ reader. reader_state reader ≡ Fed.More) }
         ensures ready { IfOk result (λ reader. reader_ready reader ≡ []) }
+        ensures kept { IfOk result (λ reader. reader_kept reader ≡ 0) }
     {
         // Taken apart and made again: no struct that borrows is handed on as it came.
         let Choice {
@@ -130,9 +132,10 @@ impl<'p> CaptureReader<'p> {
         ensures stops { (choice : ChoiceData) (profile : List DeviceParts) (after : AfterBadToken) (given taken : List ℕ) → ReaderStands choice profile after given taken self.old
             → reader_state self.old ≡ Fed.More → result ≡ Fed.Ended → StopsTold choice profile after (given ++ piece.now) (taken ++ reader_ready self.new) (reader_tally self.new) }
 
-        // What was ready stays ready, and more comes after it.
+        // What was ready stays ready, and more comes after it. What was taken is dropped sooner or later.
         ensures ready { Begins (reader_ready self.old) (reader_ready self.new) }
         ensures refused { result ≡ Fed.Memory → reader_ready self.new ≡ reader_ready self.old }
+        ensures few { KeepsFew self.old self.new }
         ensures over { reader_state self.old ≢ Fed.More → self.new ≡ self.old }
     {
         match self.state {
@@ -151,6 +154,7 @@ impl<'p> CaptureReader<'p> {
             → ReaderStands choice profile after given taken self.new }
         ensures ready { Begins (reader_ready self.old) (reader_ready self.new) }
         ensures refused { result ≡ Fed.Memory → reader_ready self.new ≡ reader_ready self.old }
+        ensures few { KeepsFew self.old self.new }
         ensures over { reader_state self.old ≢ Fed.More → self.new ≡ self.old }
     {
         match self.state {
@@ -177,6 +181,7 @@ impl<'p> CaptureReader<'p> {
             → ReaderStands choice profile after given (taken ++ take result room.new) self.new }
         ensures state { reader_state self.new ≡ reader_state self.old }
         ensures tally { reader_tally self.new ≡ reader_tally self.old }
+        ensures few { KeepsFew self.old self.new }
     {
         self.queue.take(room)
     }
@@ -205,6 +210,7 @@ impl<'p> CaptureReader<'p> {
             → result ≡ Fed.Ended → StopsTold choice profile after (given ++ piece.now) (taken ++ reader_ready self.new) (reader_tally self.new) }
         ensures ready { Begins (reader_ready self.old) (reader_ready self.new) }
         ensures refused { result ≡ Fed.Memory → reader_ready self.new ≡ reader_ready self.old }
+        ensures few { KeepsFew self.old self.new }
     {
         tellers_have_told();
         let waiting = &mut *self.waiting;
@@ -222,6 +228,7 @@ impl<'p> CaptureReader<'p> {
             → ReaderStands choice profile after given taken self.new }
         ensures ready { Begins (reader_ready self.old) (reader_ready self.new) }
         ensures refused { result ≡ Fed.Memory → reader_ready self.new ≡ reader_ready self.old }
+        ensures few { KeepsFew self.old self.new }
     {
         let waiting = &mut *self.waiting;
         let made = tell_end(&mut self.teller, waiting, &mut self.fresh);
@@ -282,7 +289,8 @@ fn tell_end(teller: &mut CaptureTeller<'_>, waiting: &mut Waiting, fresh: &mut F
 
 /// Puts what a call made after what is ready, where it was made whole.
 fn gather(queue: &mut Queue, fresh: &mut Fresh, made: Fed) -> Fed
-    ensures { Gathers made queue.old queue.new (fresh_bytes fresh.old) result }
+    ensures gathers { Gathers made queue.old.left queue.new.left (fresh_bytes fresh.old) result }
+    ensures few { QueueKeepsFew queue.old queue.new }
 {
     match made {
         Fed::Memory => Fed::Memory,

@@ -1,5 +1,7 @@
 //! The lines that help while they are written, and where the fault is.
 
+ghost use Rattle.std.specs.Prelude.{◌≡◌, [], false};
+
 use crate::values::{Shown, shown};
 use crate::walk::Lost;
 use arrayvec::ArrayString;
@@ -16,7 +18,10 @@ pub(crate) struct Draft {
 }
 
 impl Draft {
-    pub(crate) fn new() -> Draft {
+    pub(crate) fn new() -> Draft
+        ensures text { result.text.bytes ≡ [] }
+        ensures memory { result.has_no_memory ≡ false }
+    {
         Draft {
             text: ArrayString::new(),
             at: None,

@@ -3,7 +3,7 @@
 //!
 //! [`hints`] reads the text anew and looks for the fault, of which only its name and its place are
 //! known. What it writes is for people, and no program should read it. No clause says which lines
-//! they are: the rows of `tests/rows/hints.txt` do.
+//! they are, but that the first one begins with the place: the rows of `tests/rows/hints.txt` do.
 //!
 //! ```rust
 //! let text = b"[[device]]\naddress = 0xb0\npec = \"on\"\n";

@@ -2,19 +2,20 @@
 //!
 //! Its rows: `tests_tasks`, `src/profiles.rt`; `tests/rows/hints.txt`.
 
-ghost use Rattle.std.specs.Prelude.{◌≡◌, [], IfSome, None};
-ghost use Rattle.pmb_hints.specs.Place.{IsPlaceIn};
-ghost use Rattle.pmb_keys.specs.declared.fault.FaultKind.TheVariants.{OutOfMemory};
+ghost use Rattle.std.specs.Prelude.{◌≡◌, ◌≤◌, ◌++◌, [], IfSome, List, None, Some, codes, false, length, min, ℕ};
+ghost use Rattle.pmb_hints.specs.Hints.{Hints, Tell, TellsAt};
+ghost use Rattle.pmb_hints.specs.Place.{IsPlaceAt, IsPlaceIn, place_text};
 
 use crate::draft::Draft;
 use crate::keyed::TablePlace;
 use crate::mistakes::{EACH_COMMAND, EACH_DEVICE, command_hint, device_hint, top_hint};
-use crate::syntax::{syntax_hint, utf8_hint};
+use crate::report::append;
+use crate::syntax::{syntax_hint, utf8_draft};
 use arrayvec::ArrayString;
+use itoa::Buffer;
 use pmb_places::{Place, Places};
 use pmb_table::{FaultKind, ProfileFault};
 use std::alloc::Global;
-use std::fmt::Write;
 use toml::{Table, Value};
 
 /// The lines that help with a fault, and where it is.
@@ -39,30 +40,64 @@ impl HintLines {
         }
     }
 
-    /// The lines of a draft, with the place in the text in front.
+    /// The lines of a draft, the first of which begins with the place in the text. There are none if no
+    /// place is known, or if there was no memory to look for it.
     fn of(draft: &Draft, text: &[u8]) -> HintLines
-        ensures { IfSome result.place (IsPlaceIn text.now) }
+        ensures within { IfSome result.place (IsPlaceIn text.now) }
+        ensures told { Tell result.lines.bytes result.place }
+        ensures known { (at : ℕ) (words : List ℕ) → draft.now.at ≡ Some at → at ≤ length text.now
+            → draft.now.has_no_memory ≡ false → draft.now.text.bytes ≡ codes "  " ++ words
+            → TellsAt text.now at words result.lines.bytes result.place }
     {
-        let mut hints = HintLines::none();
-        let mut written = draft.text.as_str();
-        if let Some(at) = draft.at {
-            let place = place_at(text, at);
-            hints.place = Some(place);
-            let _ = write!(
-                hints.lines,
-                "  line {}, column {}: ",
-                place.line, place.column
-            );
-            written = written.strip_prefix("  ").unwrap_or(written);
+        match draft.at {
+            Some(at) if !draft.has_no_memory => HintLines::at(
+                place_at(text, at),
+                unmarked(draft.text.as_str()),
+            ),
+            _ => HintLines::none(),
         }
-        let _ = hints.lines.try_push_str(written);
-        hints
+    }
+
+    /// Lines after their place.
+    fn at(place: Place, words: &str) -> HintLines
+        requires { length words.now ≤ 1024 }
+        ensures lines { result.lines.bytes ≡ place_text place ++ words.now }
+        ensures place { result.place ≡ Some place }
+    {
+        let mut lines = ArrayString::new();
+        let _ = lines.try_push_str(text_of(place).as_str());
+        let _ = lines.try_push_str(words);
+        HintLines {
+            lines,
+            place: Some(place),
+        }
     }
 }
 
-/// The place after so many bytes of a text.
+/// A draft's lines without the two spaces in front.
+fn unmarked(lines: &str) -> &str
+    ensures rest { (words : List ℕ) → lines.now ≡ codes "  " ++ words → result.now ≡ words }
+    ensures short { length result.now ≤ length lines.now }
+{
+    lines.strip_prefix("  ").unwrap_or(lines)
+}
+
+/// How a line names its place.
+fn text_of(place: Place) -> ArrayString<96>
+    ensures { result.bytes ≡ place_text place }
+{
+    let mut text = ArrayString::new();
+    append(&mut text, "  line ");
+    append(&mut text, Buffer::new().format(place.line));
+    append(&mut text, ", column ");
+    append(&mut text, Buffer::new().format(place.column));
+    append(&mut text, ": ");
+    text
+}
+
+/// The place after so many bytes of a text, or at its end.
 fn place_at(text: &[u8], at: usize) -> Place
-    ensures { IsPlaceIn text.now result }
+    ensures { IsPlaceAt text.now (min at (length text.now)) result }
 {
     let mut places = Places::new();
     places.take(&text[..at.min(text.len())]);
@@ -70,32 +105,27 @@ fn place_at(text: &[u8], at: usize) -> Place
 }
 
 /// The lines that help with the fault of a profile's text, each with its LF. There are none if nothing
-/// helps, or if there is no memory to read the text again.
+/// helps, if its place isn't found, or if there is no memory to read the text again.
 pub fn hints(alloc: Global, text: &[u8], fault: ProfileFault) -> HintLines
-    ensures memory { fault.what ≡ OutOfMemory → (result.lines.bytes ≡ []) × (result.place ≡ None) }
-    // A place that is told is one of the text.
-    ensures place { IfSome result.place (IsPlaceIn text.now) }
+    ensures { Hints text.now fault result.lines.bytes result.place }
 {
     if fault.what == FaultKind::OutOfMemory {
         return HintLines::none();
     }
-    let mut draft = Draft::new();
     match std::str::from_utf8(text) {
-        Ok(text) => text_hint(alloc, text, fault, &mut draft),
-        Err(error) => utf8_hint(error.valid_up_to(), &mut draft),
+        Ok(document) => HintLines::of(&text_draft(alloc, document, fault), text),
+        Err(error) => HintLines::of(&utf8_draft(error.valid_up_to()), text),
     }
-    if draft.has_no_memory {
-        return HintLines::none();
-    }
-    HintLines::of(&draft, text)
 }
 
-/// Hints for the fault of a text.
-fn text_hint(alloc: Global, text: &str, fault: ProfileFault, lines: &mut Draft) {
+/// The lines on the fault of a text.
+fn text_draft(alloc: Global, text: &str, fault: ProfileFault) -> Draft {
+    let mut lines = Draft::new();
     match toml::table_from_str(alloc, text) {
-        Ok(table) => table_hint(alloc, text, &table, fault, lines),
-        Err(error) => syntax_hint(text, &error, lines),
+        Ok(table) => table_hint(alloc, text, &table, fault, &mut lines),
+        Err(error) => syntax_hint(text, &error, &mut lines),
     }
+    lines
 }
 
 /// Hints for the fault of a document's table.

@@ -2,6 +2,8 @@
 //!
 //! Its rows: `tests/rows/hints.txt`.
 
+ghost use Rattle.std.specs.Prelude.{◌≡◌, Some, codes, false};
+
 use crate::draft::Draft;
 use std::fmt::Write;
 use toml::de::Error;
@@ -25,10 +27,16 @@ pub(crate) fn syntax_hint(text: &str, error: &Error, lines: &mut Draft) {
     }
 }
 
-/// Where a text stops to be UTF-8.
-pub(crate) fn utf8_hint(place: usize, lines: &mut Draft) {
-    lines.at = Some(place);
-    let _ = lines.text.try_push_str("  not UTF-8\n");
+/// What is said of a text that stops being UTF-8 after so many bytes.
+pub(crate) fn utf8_draft(at: usize) -> Draft
+    ensures text { result.text.bytes ≡ codes "  not UTF-8\n" }
+    ensures at { result.at ≡ Some at }
+    ensures memory { result.has_no_memory ≡ false }
+{
+    let mut draft = Draft::new();
+    draft.at = Some(at);
+    let _ = draft.text.try_push_str("  not UTF-8\n");
+    draft
 }
 
 /// Whether the first line of a text that is not blank and no comment begins as a capture or lines do.

@@ -1,4 +1,4 @@
--- A message that ends by STOP leaves the bus between two transfers.
+-- Signals leave the same devices on the bus, and a message that ends by STOP leaves it between two transfers.
 use Rattle.std.proofs.Common.{◌≡◌, ◌∙◌, ℕ, ◌<◌, ◌≤◌, Bool, true, List, [], ◌∷◌, ◌++◌, Result, Ok, Err, map, append_assoc}
 use Rattle.std.proofs.Common.{ap, refl, subst, sym, arith}
 use Rattle.std.specs.Prelude.{is_err}
@@ -33,7 +33,7 @@ same_devices legs (old ∷ olds) (new ∷ news) all =
     ∙ ap (λ (ds : List DeviceParts). old.device ∷ ds) (same_devices legs olds news all.2)
 
 -- where a bus of these devices stands
-abbrev Somewhere : List DeviceParts → Bus → Type 0
+abbrev pub Somewhere : List DeviceParts → Bus → Type 0
 Somewhere devices bus =
     (standing : BusStanding) × BusStandsAt bus standing × (devices_of standing.members ≡ devices)
 
@@ -56,6 +56,14 @@ leads_on devices standing Ack answer new are leads = (behind standing Ack answer
 leads_on devices standing Nack answer new are leads = (behind standing Nack answer, leads, are)
 leads_on devices standing Stop answer new are leads =
     let over = after_stop devices standing new are leads in (over.standing, over.stands, over.devices_are)
+
+-- after any signals
+pub takes_on : (devices : List DeviceParts) (xs : List AnsweredSignal) (standing : BusStanding) (new : Bus)
+    → devices_of standing.members ≡ devices → TakesInTurn standing xs new → Somewhere devices new
+takes_on devices [] standing new are took = (standing, took, are)
+takes_on devices (x ∷ xs) standing new are took =
+    let next = leads_on devices standing x.signal x.result took.0 are took.1.leads in
+    takes_on devices xs next.0 new next.2 (took.2 next.0 next.1)
 
 -- where the last of some signals is STOP
 stop_ends : (devices : List DeviceParts) (xs : List AnsweredSignal) (answer : DeviceSignal) (standing : BusStanding)

@@ -12,6 +12,7 @@ ghost use Rattle.pmb_items.specs.Number.{is_assumed, no_number, no_value, no_vol
 use crate::bytes::flag;
 use crate::item::ItemNumber;
 use pmb_command::Kind;
+use pmb_json_fields::Basis;
 use pmb_json_objects::Seen;
 use pmb_keys::Command;
 use pmb_table::DeviceProfile;
@@ -57,11 +58,20 @@ fn number_seen(
     )
 }
 
-/// Whether the VOUT_MODE of a device is assumed.
+/// Whether the format of a device's output voltages is assumed.
 fn assumed_at(seen: &Seen<'_>, addr: u8) -> bool
     ensures { (known : SeenData) → Sees seen.now known → result ≡ is_assumed (basis_at known addr) }
 {
-    seen.late.is_assumed(addr)
+    is_assumed(seen.basis(addr))
+}
+
+fn is_assumed(basis: Basis) -> bool
+    ensures { result ≡ is_assumed basis }
+{
+    match basis {
+        Basis::Told => false,
+        Basis::Assumed => true,
+    }
 }
 
 /// The number that bytes are.

@@ -4,7 +4,6 @@ pub mod PieceMembers
 pub mod Pieces
 pub mod PieceTimes
 pub mod Cut
-pub mod Dropped
 pub mod Mended
 pub mod NoMore
 pub mod Said

@@ -1,8 +1,8 @@
 -- What is known in a piece of a capture after lines that were dropped is so on the bus, whatever these lines
--- said: of PAGE and VOUT_MODE since it is certain, and of PHASE since the last one was told after them. For the
--- law `damaged_pieces_say_no_more`. What was told on the bus can be reached from what the piece has (`reach`),
--- and the piece has its end (`told_end`). What the piece tells after these lines the bus has too, and what is
--- lost at refusals there is lost in both (`mended_on`, `told_on`).
+-- said: of PAGE and VOUT_MODE since it may be reached, and of PHASE since the last one was told after them. For
+-- the law `damaged_pieces_say_no_more`. What was told on the bus can be reached from what the piece has
+-- (`reach`), and the piece has its end (`told_end`). What the piece tells after these lines the bus has too
+-- (`told_on`).
 use Rattle.std.proofs.Common.{◌≡◌, ℕ, Bool, true, false, cond, Option, Some, None, List, [], ◌∷◌, ◌++◌, flat_map, fold, map}
 use Rattle.std.proofs.Common.{refl, sym, ap, ◌∙◌, subst, append_assoc, append-nil}
 use Rattle.std.specs.Option.{is_some, option_and_then, option_map, option_or}
@@ -11,18 +11,14 @@ use Rattle.std.proofs.lemmas.List.Sums.{fold-append}
 use Rattle.std.proofs.lemmas.Option.{none-some}
 use Rattle.pmb_command.specs.Parts.{DeviceParts, device_with}
 use Rattle.pmb_note.specs.Paging.{PagingData, RegisterTold, after_told, after_transaction, first_paging, paging}
-use Rattle.pmb_note.specs.Paging.{selected_mode, told, told_by_part}
-use Rattle.pmb_note.specs.Paging.{mode as mode_of_whole, page as page_of_whole}
+use Rattle.pmb_note.specs.Paging.{told, told_by_part}
 use Rattle.pmb_transaction.specs.Transaction.{TransactionData, Write, Read, Call, Refused, Alert, NoAlert}
-use Rattle.pmb_unknown_start.specs.Certain.{AgreesWith, CanBegin, CanFollow, CanFollowDrop, CanFollowPast}
-use Rattle.pmb_unknown_start.specs.Certain.{CanFollowWrites, CanReach, DropsOnOwnPage, IsCertainMode, IsCertainPage}
-use Rattle.pmb_unknown_start.specs.Certain.{IsOwnPage, MayHave}
-use Rattle.pmb_unknown_start.specs.Known.{known, known_mode, mode, mode_of, page}
-use Rattle.pmb_unknown_start.specs.Past.{PastData, Said, Dropped, transactions_of}
+use Rattle.pmb_unknown_start.specs.Certain.{CanBegin, CanFollow, CanFollowDrop, CanFollowPast, CanFollowWrites}
+use Rattle.pmb_unknown_start.specs.Certain.{CanReach, MayHave, StaysKnown}
+use Rattle.pmb_unknown_start.specs.Known.{known, known_mode, mode, mode_of, page, page_of}
+use Rattle.pmb_unknown_start.specs.Past.{PastData, Said, Dropped}
 use Rattle.pmb_unknown_start.specs.Phase.{last_phase, phase, phase_of, told_phase, told_since, told_then}
 use Rattle.pmb_unknown_start.specs.Restores.{untells}
-use Rattle.pmb_unknown_start.specs.declared.mode.KnownMode.{KnownMode}
-use Rattle.pmb_unknown_start.specs.declared.mode.KnownMode.TheVariants.{Known, Unknown, NoPage}
 use Rattle.pmb_unknown_start.specs.declared.start.Start.{Start}
 use Rattle.pmb_unknown_start.specs.declared.start.Start.TheVariants.{AllKnown, Late, LateFixedMode}
 use Rattle.pmb_json.specs.Mended.{CanBeMended, IsMended}
@@ -87,65 +83,6 @@ module _ (device : DeviceParts) where
         (append_assoc before is.0 is.1 ∙ ap (λ (l : List TransactionData). before ++ l) (sym is.2))
         (reach start (before ++ is.0) past is.1 is.4),
   )
-
-  -- ---- and what the piece tells after that
-
-  -- PAGE of a device that it has stays what it is where something is dropped
-  drop_stays : (start : Start) (p : PagingData) → IsOwnPage device p.page → CanFollowDrop start device p p
-  drop_stays AllKnown p own = refl
-  drop_stays Late p own = (own, refl)
-  drop_stays LateFixedMode p own = (own, refl)
-
-  -- what is said without anything lost
-  said_mended : (start : Start) (before : List TransactionData) (more : List PastData)
-      → DropsOnOwnPage device (paging device before) more → IsMended start device before more (transactions_of more)
-  said_mended start before [] drops = refl
-  said_mended start before (Said t ∷ more) drops = (
-    transactions_of more,
-    refl,
-    said_mended start (before ++ t ∷ []) more
-        (subst (λ (p : PagingData). DropsOnOwnPage device p more) (sym (one_more before t)) drops),
-  )
-  said_mended start before (Dropped ∷ more) drops =
-      let same = sym (append-nil before) in (
-        [],
-        transactions_of more,
-        refl,
-        subst (λ (l : List TransactionData). CanFollowDrop start device (paging device before) (paging device l)) same
-            (drop_stays start (paging device before) drops.0),
-        subst (λ (l : List TransactionData). IsMended start device l more (transactions_of more)) same
-            (said_mended start before more drops.1),
-      )
-
-  -- .. after lines that are mended
-  pub mended_on : (start : Start) (before : List TransactionData) (past : List PastData) (ts : List TransactionData)
-      (more : List PastData) → IsMended start device before past ts
-      → DropsOnOwnPage device (paging device (before ++ ts)) more
-      → IsMended start device before (past ++ more) (ts ++ transactions_of more)
-  mended_on start before [] ts more is drops =
-      subst (λ (l : List TransactionData). IsMended start device before more (l ++ transactions_of more)) (sym is)
-      (said_mended start before more
-      (subst (λ (l : List TransactionData). DropsOnOwnPage device (paging device l) more)
-      (ap (λ (l : List TransactionData). before ++ l) is ∙ append-nil before) drops))
-  mended_on start before (Said t ∷ past) ts more is drops = (
-    is.0 ++ transactions_of more,
-    ap (λ (l : List TransactionData). l ++ transactions_of more) is.1,
-    mended_on start (before ++ t ∷ []) past is.0 more is.2
-        (subst (λ (l : List TransactionData). DropsOnOwnPage device (paging device l) more)
-        (ap (λ (l : List TransactionData). before ++ l) is.1 ∙ sym (append_assoc before (t ∷ []) is.0)) drops),
-  )
-  mended_on start before (Dropped ∷ past) ts more is drops = (
-    is.0,
-    is.1 ++ transactions_of more,
-    ap (λ (l : List TransactionData). l ++ transactions_of more) is.2
-        ∙ append_assoc is.0 is.1 (transactions_of more),
-    is.3,
-    mended_on start (before ++ is.0) past is.1 more is.4
-        (subst (λ (l : List TransactionData). DropsOnOwnPage device (paging device l) more)
-        (ap (λ (l : List TransactionData). before ++ l) is.2 ∙ sym (append_assoc before is.0 is.1)) drops),
-  )
-
--- ---- PHASE
 
 -- what is told on, where more was told before
 told_on : (front all : List RegisterTold) (more : List PastData)
@@ -237,51 +174,42 @@ module _ (start : Start) (before : List TransactionData) (past : List PastData) 
   phase_mended profile can addr n is =
       phase_found addr n (device_with addr profile) (λ device found. (can addr device found).1) is
 
--- .. and PAGE and VOUT_MODE
-module _ (start : Start) (before : List TransactionData) (past : List PastData) (ts : List TransactionData) where
-  -- what the law `what_is_known_is_certain` says
+-- .. and PAGE and VOUT_MODE, by the law `what_may_be_reached_stays_known`
+module _ (start : Start) (before : List TransactionData) (past : List PastData) (ts : List TransactionData)
+    (more : List PastData) where
+  abbrev on_bus : List PastData
+  on_bus = map Said (before ++ ts) ++ more
+
   module _
-      (certain_mode : (device : DeviceParts) (m : ℕ) → known_mode (known start device past) ≡ Known m
-      → IsCertainMode start device past (Some m))
-      (certain_none : (device : DeviceParts) → known_mode (known start device past) ≡ NoPage
-      → IsCertainMode start device past None)
-      (certain_page : (device : DeviceParts) (n : ℕ) → (known start device past).page ≡ Some n
-      → IsCertainPage start device past n)
-    where
-      mode_by : (device : DeviceParts) → CanBegin start device (paging device before)
-          → IsMended start device before past ts → (k : KnownMode) → known_mode (known start device past) ≡ k
-          → AgreesWith k (selected_mode (paging device (before ++ ts)))
-      mode_by device begin is (Known m) known_is =
-          certain_mode device m known_is (paging device before) (paging device (before ++ ts)) begin
-          (reach device start before past ts is)
-      mode_by device begin is Unknown known_is = tt
-      mode_by device begin is NoPage known_is =
-          certain_none device known_is (paging device before) (paging device (before ++ ts)) begin
-          (reach device start before past ts is)
+      (modes_stay : (device : DeviceParts) → CanBegin start device (paging device before)
+      → CanReach start device (paging device before) past (paging device (before ++ ts))
+      → StaysKnown (known_mode (known start device (past ++ more))) (known_mode (known AllKnown device on_bus))) where
+    mode_found : (found : Option DeviceParts)
+        → ((device : DeviceParts) → found ≡ Some device
+        → CanBegin start device (paging device before) × IsMended start device before past ts)
+        → StaysKnown (mode_of (λ device. known start device (past ++ more)) found)
+        (mode_of (λ device. known AllKnown device on_bus) found)
+    mode_found None can = refl
+    mode_found (Some device) can =
+        modes_stay device (can device refl).0 (reach device start before past ts (can device refl).1)
 
-      mode_found : (found : Option DeviceParts)
-          → ((device : DeviceParts) → found ≡ Some device
-          → CanBegin start device (paging device before) × IsMended start device before past ts)
-          → AgreesWith (mode_of (λ device. known start device past) found)
-          (option_and_then (λ device. selected_mode (paging device (before ++ ts))) found)
-      mode_found None can = refl
-      mode_found (Some device) can =
-          mode_by device (can device refl).0 (can device refl).1 (known_mode (known start device past)) refl
+    pub mode_mended : (profile : List DeviceParts) → CanBeMended start profile before past ts → (addr : ℕ)
+        → StaysKnown (mode start profile (past ++ more) addr) (mode AllKnown profile on_bus addr)
+    mode_mended profile can addr = mode_found (device_with addr profile) (can addr)
 
-      page_found : (n : ℕ) (found : Option DeviceParts)
-          → ((device : DeviceParts) → found ≡ Some device
-          → CanBegin start device (paging device before) × IsMended start device before past ts)
-          → option_and_then (λ device. (known start device past).page) found ≡ Some n
-          → option_map (λ device. (paging device (before ++ ts)).page) found ≡ Some n
-      page_found n None can is = absurd (none-some n is)
-      page_found n (Some device) can is =
-          ap Some (certain_page device n is (paging device before) (paging device (before ++ ts)) (can device refl).0
-          (reach device start before past ts (can device refl).1))
+  module _
+      (page_stays : (device : DeviceParts) (n : ℕ) → CanBegin start device (paging device before)
+      → CanReach start device (paging device before) past (paging device (before ++ ts))
+      → (known start device (past ++ more)).page ≡ Some n → (known AllKnown device on_bus).page ≡ Some n) where
+    page_found : (n : ℕ) (found : Option DeviceParts)
+        → ((device : DeviceParts) → found ≡ Some device
+        → CanBegin start device (paging device before) × IsMended start device before past ts)
+        → page_of (λ device. known start device (past ++ more)) found ≡ Some n
+        → page_of (λ device. known AllKnown device on_bus) found ≡ Some n
+    page_found n None can is = is
+    page_found n (Some device) can is =
+        page_stays device n (can device refl).0 (reach device start before past ts (can device refl).1) is
 
-      pub mode_mended : (profile : List DeviceParts) → CanBeMended start profile before past ts → (addr : ℕ)
-          → AgreesWith (mode start profile past addr) (mode_of_whole profile (before ++ ts) addr)
-      mode_mended profile can addr = mode_found (device_with addr profile) (can addr)
-
-      pub page_mended : (profile : List DeviceParts) → CanBeMended start profile before past ts → (addr n : ℕ)
-          → page start profile past addr ≡ Some n → page_of_whole profile (before ++ ts) addr ≡ Some n
-      page_mended profile can addr n is = page_found n (device_with addr profile) (can addr) is
+    pub page_mended : (profile : List DeviceParts) → CanBeMended start profile before past ts → (addr n : ℕ)
+        → page start profile (past ++ more) addr ≡ Some n → page AllKnown profile on_bus addr ≡ Some n
+    page_mended profile can addr n is = page_found n (device_with addr profile) (can addr) is

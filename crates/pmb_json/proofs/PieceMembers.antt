@@ -3,7 +3,7 @@
 -- Pieces, which goes from members to objects. What the piece gives the whole gives too, but for
 -- places, for what is not known in the piece or only assumed, and for times where these may differ.
 use Rattle.std.proofs.Common.{◌≡◌, ℕ, zero, suc, ◌+◌, ◌<◌, ◌*◌, Bool, true, false, Option, Some, None, Result, Ok}
-use Rattle.std.proofs.Common.{Err, ◌⊎◌, inl}
+use Rattle.std.proofs.Common.{Err, ◌⊎◌, if◌then◌else◌, inl}
 use Rattle.std.proofs.Common.{inr, List, [], ◌∷◌, ◌++◌, codes, length, slice_index_or, refl, sym, ◌∙◌}
 use Rattle.std.proofs.Common.{ap, subst, arith}
 use Rattle.std.specs.List.{AllByRecursion, Contains, list_any}
@@ -32,13 +32,14 @@ use Rattle.pmb_voltage.specs.declared.voltage.NoVoltage.TheVariants.{Unknown}
 use Rattle.pmb_voltage.specs.declared.voltage.VoltageFormat.{VoltageFormat}
 use Rattle.pmb_voltage.specs.Voltage.{voltage_format, voltages_of}
 use Rattle.pmb_voltage.proofs.Knowing.{knows_no_other}
-use Rattle.pmb_unknown_start.specs.Certain.{AgreesWith, known_as}
+use Rattle.pmb_unknown_start.specs.Certain.{StaysKnown}
 use Rattle.pmb_unknown_start.specs.declared.mode.KnownMode.{KnownMode}
 use Rattle.pmb_json_text.specs.Json.{null, string}
 use Rattle.pmb_json_text.specs.Member.{Member, count, named}
 use Rattle.pmb_places.specs.declared.places.Place.{Place}
 use Rattle.pmb_json_objects.specs.Head.{Head}
-use Rattle.pmb_json_objects.specs.Members.{entry_members, head_members, of_command, of_device_command, page_member}
+use Rattle.pmb_json_objects.specs.Members.{entry_members, head_members, of_command, of_device_command, page_members}
+use Rattle.pmb_json_objects.specs.Members.{is_marked, page_mode_member}
 use Rattle.pmb_json_objects.specs.Members.{phase_member, selected_value, time_members, where_members}
 use Rattle.pmb_json.specs.Pieces.{IsMeaning, IsUnknown, IsWhere, OtherTimes, SayNoMore, TellsNoMore, Timing}
 use Rattle.pmb_json.specs.Pieces.{meaning_keys}
@@ -69,7 +70,7 @@ of_each P (first ∷ keys) key (suc k) each within is = of_each P keys key k eac
 abbrev moving_keys : List (List ℕ)
 moving_keys =
     codes "at" ∷ codes "line" ∷ codes "column" ∷ codes "page" ∷ codes "phase" ∷ codes "raw" ∷ codes "mode"
-    ∷ codes "time" ∷ []
+    ∷ codes "page_mode" ∷ codes "time" ∷ []
 
 abbrev is_moving : List ℕ → Bool
 is_moving key = list_any (bytes_eq key) moving_keys
@@ -89,7 +90,8 @@ unknown_moves : (m : Member) → IsUnknown m → is_moving m.key ≡ true
 unknown_moves m (inl is) = ap (λ (x : Member). is_moving x.key) is
 unknown_moves m (inr (inl is)) = ap (λ (x : Member). is_moving x.key) is
 unknown_moves m (inr (inr (inl is))) = ap (λ (x : Member). is_moving x.key) is
-unknown_moves m (inr (inr (inr is))) = ap (λ (x : Member). is_moving x.key) is
+unknown_moves m (inr (inr (inr (inl is)))) = ap (λ (x : Member). is_moving x.key) is
+unknown_moves m (inr (inr (inr (inr is)))) = ap (λ (x : Member). is_moving x.key) is
 
 module _ {timing : Timing} where
   -- ---- members
@@ -193,22 +195,32 @@ module _ {timing : Timing} where
     selected_said : SayNoMore timing (named key (selected_value p) ∷ []) (named key (selected_value q) ∷ [])
     selected_said = selected_is p refl
 
+  -- the mark of a page that is assumed
+  either_marked : (b : Bool) (others : List Member)
+      → SayNoMore timing (if b then named (codes "page_mode") (string (codes "assumed")) ∷ [] else []) others
+  either_marked true others = unknown (named (codes "page_mode") (string (codes "assumed"))) others
+      (inr (inr (inr (inr refl))))
+  either_marked false others = nothing_said others
+
   module _ (p q : Option ℕ) (known : (number : ℕ) → p ≡ Some number → q ≡ Some number) where
-    page_said : (paged : Bool) → SayNoMore timing (page_member paged p) (page_member paged q)
-    page_said false = same []
-    page_said true = selected_said (codes "page") (inl refl) p q known
+    page_said : (one other : Basis) (pages : ℕ) (paged : Bool)
+        → SayNoMore timing (page_members paged p one pages) (page_members paged q other pages)
+    page_said one other pages false = same []
+    page_said one other pages true =
+        both (selected_said (codes "page") (inl refl) p q known)
+        (either_marked (is_marked p one pages) (page_mode_member q other pages))
 
     phase_said : (phased : Bool) → SayNoMore timing (phase_member phased p) (phase_member phased q)
     phase_said false = same []
     phase_said true = selected_said (codes "phase") (inr (inl refl)) p q known
 
   pub entry_said : (p q : Option ℕ) → ((number : ℕ) → p ≡ Some number → q ≡ Some number)
-      → (f g : Option ℕ) → ((number : ℕ) → f ≡ Some number → g ≡ Some number)
+      → (one other : Basis) (f g : Option ℕ) → ((number : ℕ) → f ≡ Some number → g ≡ Some number)
       → (device : DeviceParts) (c : CommandParts)
-      → SayNoMore timing (entry_members p f device c) (entry_members q g device c)
-  entry_said p q pages f g phases device c =
+      → SayNoMore timing (entry_members p one f device c) (entry_members q other g device c)
+  entry_said p q pages one other f g phases device c =
       both (same (named (codes "command") (string c.entry.name) ∷ []))
-      (both (page_said p q pages c.entry.paged) (phase_said f g phases (has_phases device c)))
+      (both (page_said p q pages one other device.pages c.entry.paged) (phase_said f g phases (has_phases device c)))
 
   -- .. of the command with a code, where there is one
   of_command_said : (one other : DeviceParts → CommandParts → List Member)
@@ -232,7 +244,7 @@ module _ {timing : Timing} where
   mark_said : (one other : Basis) → SayNoMore timing (basis_members one) (basis_members other)
   mark_said Told other = nothing_said (basis_members other)
   mark_said Assumed other = unknown (named (codes "mode") (string (codes "assumed"))) (basis_members other)
-      (inr (inr (inr refl)))
+      (inr (inr (inr (inl refl))))
 
 module _ (places : ℕ) (acc : Access) (device : DeviceParts) (c : CommandParts) where
   -- data in the piece and in the whole, by what is known of VOUT_MODE and PAGE and what the mode rests on
@@ -272,22 +284,22 @@ module _ (places : ℕ) (acc : Access) (device : DeviceParts) (c : CommandParts)
 
     -- ---- what is known in both agrees
 
-    module _ (m : KnownMode) (w p q : Option ℕ) (agrees : AgreesWith m w)
+    module _ (m w : KnownMode) (p q : Option ℕ) (stays : StaysKnown m w)
         (known : (number : ℕ) → p ≡ Some number → q ≡ Some number) where
       voltage_said : (sign : Sign) (bytes : List ℕ)
           → SayNoMore timing (of_word (vout_members places (voltages_of device m p) one c sign) bytes)
-          (of_word (vout_members places (voltages_of device (known_as w) q) other c sign) bytes)
+          (of_word (vout_members places (voltages_of device w q) other c sign) bytes)
       voltage_said sign [] = same []
       voltage_said sign (a ∷ []) = same []
       voltage_said sign (low ∷ high ∷ []) =
           format_said (voltage_format (voltages_of device m p) c.entry.code sign)
-          (voltage_format (voltages_of device (known_as w) q) c.entry.code sign) (low + 256 * high)
-          (knows_no_other device m w p q c.entry.code sign agrees known)
+          (voltage_format (voltages_of device w q) c.entry.code sign) (low + 256 * high)
+          (knows_no_other device m w p q c.entry.code sign stays known)
       voltage_said sign (a ∷ b ∷ d ∷ bytes) = same []
 
       kind_said : (kind : Kind) (bytes : List ℕ)
           → SayNoMore timing (kind_members places acc (voltages_of device m p) one c kind bytes)
-          (kind_members places acc (voltages_of device (known_as w) q) other c kind bytes)
+          (kind_members places acc (voltages_of device w q) other c kind bytes)
       kind_said Raw bytes = same []
       kind_said (Number format) bytes = same (of_word (number_members places c.unit format) bytes)
       kind_said Vout bytes = voltage_said Unsigned bytes
@@ -296,7 +308,7 @@ module _ (places : ℕ) (acc : Access) (device : DeviceParts) (c : CommandParts)
       kind_said Text bytes = same []
 
       pub data_said : (bytes : List ℕ)
-          → SayNoMore timing (said_by m p one bytes) (said_by (known_as w) q other bytes)
+          → SayNoMore timing (said_by m p one bytes) (said_by w q other bytes)
       data_said bytes =
           both (kind_said c.entry.kind bytes)
           (same (text_members (text_of c.entry (form_of acc c.entry.shape) bytes)))

@@ -5,7 +5,6 @@
 use Rattle.std.proofs.Common.{◌≡◌, ℕ, suc, ◌+◌, ◌/◌, Bool, true, false, Option, Some, None}
 use Rattle.std.proofs.Common.{List, [], ◌∷◌, ◌++◌, codes, drop, take, length, map, refl, sym}
 use Rattle.std.proofs.Common.{ap, subst, append-nil, length-take, length-drop, arith, ◌⊎◌, inl, inr}
-use Rattle.std.specs.List.{AllByRecursion}
 use Rattle.pmb_bus.specs.declared.event.Event.{Event}
 use Rattle.pmb_bus.specs.declared.event.Event.TheVariants.{Start, Byte, Ack, Nack, Stop}
 use Rattle.pmb_bus.specs.declared.kinds.Kinds.{Kinds}
@@ -13,7 +12,7 @@ use Rattle.pmb_command.specs.Parts.{CommandParts, DeviceParts, device_with}
 use Rattle.pmb_json_fields.specs.declared.access.Access.{Access}
 use Rattle.pmb_json_fields.specs.declared.access.Access.TheVariants as access
 use Rattle.pmb_json_fields.specs.Value.{data_members}
-use Rattle.pmb_unknown_start.specs.Certain.{AgreesWith, known_as}
+use Rattle.pmb_unknown_start.specs.Certain.{StaysKnown}
 use Rattle.pmb_unknown_start.specs.declared.mode.KnownMode.{KnownMode}
 use Rattle.pmb_unknown_start.specs.declared.start.Start.{Start as LateStart}
 use Rattle.pmb_unknown_start.specs.Known.{mode, page}
@@ -45,15 +44,14 @@ use Rattle.pmb_json.specs.Objects.{objects_of}
 use Rattle.pmb_json.specs.Pieces.{EachSaysNoMore, SayNoMore, SaysNoMore, Timing}
 use Rattle.pmb_json_objects.specs.Refusals.{due_pec, refusal_object, reply_members, right_pec_members}
 use Rattle.pmb_json_objects.specs.Refusals.{said_device_members, written_members}
-use Rattle.pmb_json_objects.specs.Seen.{SeenData, basis_at}
+use Rattle.pmb_json_objects.specs.Seen.{SeenData, basis_at, page_basis_at}
 use Rattle.pmb_fact_stream.specs.Others.{other_address}
 use Rattle.pmb_fact_stream.specs.Lines.{seen_behind}
 use Rattle.pmb_fact_stream.specs.Lost.{dropped_if}
 use Rattle.pmb_fact_stream.specs.Spans.{other_or, refused_span, span_facts}
 use Rattle.pmb_facts.specs.Fact.{FactData}
-use Rattle.pmb_facts.specs.Packets.{packet_facts, refused_fact, refused_facts, write_facts}
+use Rattle.pmb_facts.specs.Packets.{packet_facts}
 use Rattle.pmb_transaction.specs.Reading.{RefusalData}
-use Rattle.pmb_json.proofs.EachOf.{each_of_first, each_of_second}
 use Rattle.pmb_json.proofs.Losses.{LoseTheSame, LosesOne}
 use Rattle.pmb_json.proofs.Objects.{PacketsHaveObjects, packet_is}
 use Rattle.pmb_json.proofs.PieceMembers.{TellEach, Tells, both, data_said, entry_said, head_said}
@@ -67,7 +65,7 @@ pub record Agree (profile : List DeviceParts) (a b : LateStart) (x y : List Past
   pub pages : (addr number : ℕ) → page a profile x addr ≡ Some number → page b profile y addr ≡ Some number
   -- a PHASE and a VOUT_MODE likewise
   pub phases : (addr number : ℕ) → phase profile x addr ≡ Some number → phase profile y addr ≡ Some number
-  pub modes : (addr : ℕ) → (w : Option ℕ) × AgreesWith (mode a profile x addr) w × (mode b profile y addr ≡ known_as w)
+  pub modes : (addr : ℕ) → StaysKnown (mode a profile x addr) (mode b profile y addr)
 
 -- the object of a bad word
 pub token_said : (timing : Timing) (head there : Head) → Tells timing head.time there.time → (word : List ℕ)
@@ -132,17 +130,10 @@ module _ (timing : Timing) (places : ℕ) (profile : List DeviceParts) (a b : La
   data_of_said : (acc : Access) (addr : ℕ) (bytes : List ℕ) (device : DeviceParts) (c : CommandParts)
       → SayNoMore timing (data_of piece acc addr bytes device c) (data_of whole acc addr bytes device c)
   data_of_said acc addr bytes device c =
-      let w = agree.modes addr in
-      let one = basis_at piece addr in
-      let other = basis_at whole addr in
-      let m : KnownMode = mode a profile x addr in
-      let p : Option ℕ = page a profile x addr in
-      let q : Option ℕ = page b profile y addr in
       both
-      (subst (λ (n : KnownMode). SayNoMore timing
-      (data_members places acc (voltages_of device m p) one c bytes)
-      (data_members places acc (voltages_of device n q) other c bytes)) (sym w.2)
-      (data_said places acc device c one other m w.0 p q w.1 (agree.pages addr) bytes))
+      (data_said places acc device c (basis_at piece addr) (basis_at whole addr) (mode a profile x addr)
+      (mode b profile y addr) (page a profile x addr) (page b profile y addr) (agree.modes addr) (agree.pages addr)
+      bytes)
       (same (says_members_of device c.entry (exchange_of acc bytes)))
 
   said : (acc : Access) (addr code : ℕ) (bytes : List ℕ)
@@ -158,8 +149,10 @@ module _ (timing : Timing) (places : ℕ) (profile : List DeviceParts) (a b : La
       let f : Option ℕ = phase profile x addr in
       let g : Option ℕ = phase profile y addr in
       both (same (code_member code))
-      (of_device_command_said (entry_members p f) (entry_members q g)
-      (entry_said p q (agree.pages addr) f g (agree.phases addr)) (device_with addr profile) code)
+      (of_device_command_said (entry_members p (page_basis_at piece addr) f)
+      (entry_members q (page_basis_at whole addr) g)
+      (entry_said p q (agree.pages addr) (page_basis_at piece addr) (page_basis_at whole addr) f g (agree.phases addr))
+      (device_with addr profile) code)
 
   sent_said : (addr : ℕ) (bytes : List ℕ)
       → SayNoMore timing (sent_command piece addr bytes) (sent_command whole addr bytes)
@@ -308,17 +301,15 @@ module _ (timing : Timing) (places : ℕ) (profile : List DeviceParts) (a b : La
 -- ---- spans
 
 -- What went before in a piece, beside what went before in the whole, which stay beside each other with a
--- transaction more, and with what is lost at a refusal. What is known of both agrees where some condition holds
--- of what went before in the piece, and it holds before each of its facts.
-pub record StandBeside (profile : List DeviceParts) (a b : LateStart) (Beside : List PastData → List PastData → Type 0)
-    (Ok : List PastData → Type 0) : Type 0 where
+-- transaction more, and with what is lost at a refusal. What is known of both agrees.
+pub record StandBeside (profile : List DeviceParts) (a b : LateStart)
+    (Beside : List PastData → List PastData → Type 0) : Type 0 where
   pub step : (x y : List PastData) (t : TransactionData) → Beside x y → Beside (x ++ Said t ∷ []) (y ++ Said t ∷ [])
   pub drop : (x y : List PastData) → Beside x y → Beside (x ++ Dropped ∷ []) (y ++ Dropped ∷ [])
-  pub agree : (x y : List PastData) → Beside x y → Ok x → Agree profile a b x y
+  pub agree : (x y : List PastData) → Beside x y → Agree profile a b x y
 
 module _ (of_packets : PacketsHaveObjects) (timing : Timing) (choice : ChoiceData) (profile : List DeviceParts)
-    (a b : LateStart) (Pasts : List PastData → List PastData → Type 0) (Ok : List PastData → Type 0)
-    (stand : StandBeside profile a b Pasts Ok)
+    (a b : LateStart) (Pasts : List PastData → List PastData → Type 0) (stand : StandBeside profile a b Pasts)
     (place there : ℕ → Place) (times theirs : ℕ → Option (List ℕ))
     (lost gone : ℕ → List Event → List PastData) where
   abbrev in_piece : ChoiceData
@@ -330,9 +321,6 @@ module _ (of_packets : PacketsHaveObjects) (timing : Timing) (choice : ChoiceDat
   abbrev Beside : List FactData → List FactData → Type 0
   Beside piece whole = FactsSayNoMore timing profile in_piece in_whole piece whole
 
-  abbrev AllOk : List FactData → Type 0
-  AllOk facts = AllByRecursion (λ fact. Ok fact.before) facts
-
   other_said : (head beside : Head) → Tells timing head.time beside.time → (addr : ℕ)
       → SaysNoMore timing (other_object head addr) (other_object beside addr)
   other_said head beside told addr = record {
@@ -342,67 +330,12 @@ module _ (of_packets : PacketsHaveObjects) (timing : Timing) (choice : ChoiceDat
 
   -- an other, or these facts
   either_said : (m n : ℕ) (addr : Option ℕ) (own beside : List FactData) → Tells timing (times m) (theirs n)
-      → (AllOk own → Beside own beside) → AllOk (other_or place times m addr own)
-      → Beside (other_or place times m addr own) (other_or there theirs n addr beside)
-  either_said m n None own beside told said ok = said ok
-  either_said m n (Some addr) own beside told said ok =
+      → Beside own beside → Beside (other_or place times m addr own) (other_or there theirs n addr beside)
+  either_said m n None own beside told said = said
+  either_said m n (Some addr) own beside told said =
       (other_said (head_at place (times m) (m + 1)) (head_at there (theirs n) (n + 1)) told addr, tt)
 
-  -- ---- a packet
-
-  -- What went before a packet went before each of its facts. So the condition holds of it, or there is no fact.
-  module _ (x y : List PastData) (time their : Option (List ℕ)) where
-    writes_ok : (part parts : ℕ) (ats bts : List ℕ) (ps : List PartData) → length ats ≡ length bts
-        → AllOk (write_facts x place time part parts ats ps)
-        → Ok x ⊎ Beside (write_facts x place time part parts ats ps)
-        (write_facts y there their part parts bts ps)
-    writes_ok part parts ats bts [] long ok = inr tt
-    writes_ok part parts [] [] (p ∷ ps) long ok = inr tt
-    writes_ok part parts [] (v ∷ bts) (p ∷ ps) long ok = absurd (omega (arith, long))
-    writes_ok part parts (u ∷ ats) [] (p ∷ ps) long ok = absurd (omega (arith, long))
-    writes_ok part parts (u ∷ ats) (v ∷ bts) (p ∷ ps) long ok = inl ok.0
-
-    legs_ok : (t : RefusedData) (ats bts : List ℕ) → length ats ≡ length bts
-        → AllOk (map (refused_fact x place time t) ats)
-        → Ok x ⊎ Beside (map (refused_fact x place time t) ats) (map (refused_fact y there their t) bts)
-    legs_ok t [] [] long ok = inr tt
-    legs_ok t [] (v ∷ bts) long ok = absurd (omega (arith, long))
-    legs_ok t (u ∷ ats) [] long ok = absurd (omega (arith, long))
-    legs_ok t (u ∷ ats) (v ∷ bts) long ok = inl ok.0
-
-    refused_ok : (t : RefusedData) (ats bts : List ℕ) → length ats ≡ length bts
-        → AllOk (refused_facts x place time ats t)
-        → Ok x ⊎ Beside (refused_facts x place time ats t) (refused_facts y there their bts t)
-    refused_ok t ats bts long ok =
-        let count = length t.parts in
-        let own = write_facts x place time 1 (count + 1) ats t.parts in
-        let own_leg = map (refused_fact x place time t) (take 1 (drop count ats)) in
-        let beside = write_facts y there their 1 (count + 1) bts t.parts in
-        let beside_leg = map (refused_fact y there their t) (take 1 (drop count bts)) in
-        elim (writes_ok 1 (count + 1) ats bts t.parts long
-        (each_of_first (λ (fact : FactData). Ok fact.before) own own_leg ok)) [
-          | inl here ↦ inl here
-          | inr first ↦
-              elim (legs_ok t (take 1 (drop count ats)) (take 1 (drop count bts)) (one_of_each count ats bts long)
-              (each_of_second (λ (fact : FactData). Ok fact.before) own own_leg ok)) [
-                | inl here ↦ inl here
-                | inr second ↦
-                    inr (both_say_no_more timing profile in_piece in_whole own beside own_leg beside_leg first second)
-              ]
-        ]
-
-    packet_ok : (m n : ℕ) (events : List Event) (t : TransactionData)
-        → AllOk (packet_facts x place time m events t)
-        → Ok x ⊎ Beside (packet_facts x place time m events t) (packet_facts y there their n events t)
-    packet_ok m n events (Write ps) ok =
-        writes_ok 1 (length ps) (starts m events) (starts n events) ps (as_many_starts m n events) ok
-    packet_ok m n events (Read t) ok = inl ok.0
-    packet_ok m n events (Call t) ok = inl ok.0
-    packet_ok m n events (Refused t) ok =
-        refused_ok t (starts m events) (starts n events) (as_many_starts m n events) ok
-    packet_ok m n events (Alert t) ok = inl ok.0
-    packet_ok m n events NoAlert ok = inl ok.0
-
+  -- the facts of a packet
   packet_agrees : (m n : ℕ) (events : List Event) (t : TransactionData) (x y : List PastData)
       → Tells timing (times m) (theirs n) → Agree profile a b x y
       → Beside (packet_facts x place (times m) m events t) (packet_facts y there (theirs n) n events t)
@@ -415,23 +348,11 @@ module _ (of_packets : PacketsHaveObjects) (timing : Timing) (choice : ChoiceDat
       (sym (packet_is in_whole profile y there (theirs n) of_packets n events t))
       (packet_said timing choice.digits profile a b x y agrees place there (times m) (theirs n) told m n events t))
 
-  -- the facts of a packet
-  packet_beside : (m n : ℕ) (events : List Event) (t : TransactionData) (x y : List PastData)
-      → Tells timing (times m) (theirs n) → Pasts x y → AllOk (packet_facts x place (times m) m events t)
-      → Beside (packet_facts x place (times m) m events t) (packet_facts y there (theirs n) n events t)
-  packet_beside m n events t x y told pasts ok =
-      elim (packet_ok x y (times m) (theirs n) m n events t ok) [
-        | inl here ↦ packet_agrees m n events t x y told (stand.agree x y pasts here)
-        | inr none ↦ none
-      ]
-
   -- ---- spans
 
   -- a refusal, or an other, and the spans after it, before which that went before
   refused_said_in : (n m : ℕ) (front : List Event) (event : Option Event) (refusal : RefusalData) (events : List Event)
       (spans : List Span) (x y u v : List PastData) → TellEach timing n times theirs → Pasts x y
-      → AllOk (other_or place times m (other_address choice.ignored events)
-      (refused_span place times x m front event refusal ∷ []) ++ span_facts choice.ignored place times lost u spans)
       → Beside (span_facts choice.ignored place times lost u spans)
       (span_facts choice.ignored there theirs gone v (moved_spans n spans))
       → Beside (other_or place times m (other_address choice.ignored events)
@@ -439,27 +360,20 @@ module _ (of_packets : PacketsHaveObjects) (timing : Timing) (choice : ChoiceDat
       (other_or there theirs (n + m) (other_address choice.ignored events)
       (refused_span there theirs y (n + m) front event refusal ∷ [])
       ++ span_facts choice.ignored there theirs gone v (moved_spans n spans))
-  refused_said_in n m front event refusal events spans x y u v told pasts ok others =
+  refused_said_in n m front event refusal events spans x y u v told pasts others =
       let addr = other_address choice.ignored events in
       let own = refused_span place times x m front event refusal ∷ [] in
       let beside = refused_span there theirs y (n + m) front event refusal ∷ [] in
       both_say_no_more timing profile in_piece in_whole (other_or place times m addr own)
       (other_or there theirs (n + m) addr beside) (span_facts choice.ignored place times lost u spans)
       (span_facts choice.ignored there theirs gone v (moved_spans n spans))
-      (either_said m (n + m) addr own beside (told m)
-      (λ here. (
-        refusal_said timing choice.digits profile a b x y (stand.agree x y pasts here.0)
+      (either_said m (n + m) addr own beside (told m) (
+        refusal_said timing choice.digits profile a b x y (stand.agree x y pasts)
             (head_at place (times m) (m + length front)) (head_at there (theirs (n + m)) (n + m + length front))
             (told m) front event refusal.reason refusal.expected,
         tt,
       ))
-      (each_of_first (λ (fact : FactData). Ok fact.before) (other_or place times m addr own)
-      (span_facts choice.ignored place times lost u spans) ok))
       others
-
-  -- what is known of the facts after those of a span
-  after_own : (own others : List FactData) → AllOk (own ++ others) → AllOk others
-  after_own own others ok = each_of_second (λ (fact : FactData). Ok fact.before) own others ok
 
   -- what went before stays beside each other with what is lost at a refusal
   dropped_beside : (x y : List PastData) (loses : Bool) → Pasts x y
@@ -471,35 +385,27 @@ module _ (of_packets : PacketsHaveObjects) (timing : Timing) (choice : ChoiceDat
 
   pub spans_said : LosesOne lost → (n : ℕ) → LoseTheSame n lost gone → (spans : List Span) (x y : List PastData)
       → TellEach timing n times theirs → Pasts x y
-      → AllOk (span_facts choice.ignored place times lost x spans)
       → Beside (span_facts choice.ignored place times lost x spans)
       (span_facts choice.ignored there theirs gone y (moved_spans n spans))
-  spans_said one n same_lost [] x y told pasts ok = tt
-  spans_said one n same_lost (ReadSpan m events t ∷ spans) x y told pasts ok =
+  spans_said one n same_lost [] x y told pasts = tt
+  spans_said one n same_lost (ReadSpan m events t ∷ spans) x y told pasts =
       let addr = other_address choice.ignored events in
       let own = packet_facts x place (times m) m events t in
       let beside = packet_facts y there (theirs (n + m)) (n + m) events t in
-      let others = span_facts choice.ignored place times lost (x ++ Said t ∷ []) spans in
       both_say_no_more timing profile in_piece in_whole (other_or place times m addr own)
-      (other_or there theirs (n + m) addr beside) others
+      (other_or there theirs (n + m) addr beside) (span_facts choice.ignored place times lost (x ++ Said t ∷ []) spans)
       (span_facts choice.ignored there theirs gone (y ++ Said t ∷ []) (moved_spans n spans))
-      (either_said m (n + m) addr own beside (told m) (packet_beside m (n + m) events t x y (told m) pasts)
-      (each_of_first (λ (fact : FactData). Ok fact.before) (other_or place times m addr own) others ok))
-      (spans_said one n same_lost spans (x ++ Said t ∷ []) (y ++ Said t ∷ []) told (stand.step x y t pasts)
-      (after_own (other_or place times m addr own) others ok))
-  spans_said one n same_lost (RefusedSpan m front event refusal ∷ spans) x y told pasts ok =
-      let own = other_or place times m (other_address choice.ignored (front ++ event ∷ []))
-      (refused_span place times x m front (Some event) refusal ∷ []) in
+      (either_said m (n + m) addr own beside (told m)
+      (packet_agrees m (n + m) events t x y (told m) (stand.agree x y pasts)))
+      (spans_said one n same_lost spans (x ++ Said t ∷ []) (y ++ Said t ∷ []) told (stand.step x y t pasts))
+  spans_said one n same_lost (RefusedSpan m front event refusal ∷ spans) x y told pasts =
       let u = x ++ lost m front in
       let v = y ++ gone (n + m) front in
       let beside = subst (λ (past : List PastData). Pasts u (y ++ past)) (sym (same_lost m front))
       (subst (λ (past : List PastData). Pasts (x ++ past) (y ++ past)) (sym (one m front).1)
       (dropped_beside x y (one m front).0 pasts)) in
-      refused_said_in n m front (Some event) refusal (front ++ event ∷ []) spans x y u v told pasts ok
-      (spans_said one n same_lost spans u v told beside
-      (after_own own (span_facts choice.ignored place times lost u spans) ok))
-  spans_said one n same_lost (TruncatedSpan m front refusal ∷ spans) x y told pasts ok =
-      let own = other_or place times m (other_address choice.ignored front)
-      (refused_span place times x m front None refusal ∷ []) in
-      refused_said_in n m front None refusal front spans x y x y told pasts ok
-      (spans_said one n same_lost spans x y told pasts (after_own own (span_facts choice.ignored place times lost x spans) ok))
+      refused_said_in n m front (Some event) refusal (front ++ event ∷ []) spans x y u v told pasts
+      (spans_said one n same_lost spans u v told beside)
+  spans_said one n same_lost (TruncatedSpan m front refusal ∷ spans) x y told pasts =
+      refused_said_in n m front None refusal front spans x y x y told pasts
+      (spans_said one n same_lost spans x y told pasts)

@@ -1,7 +1,7 @@
 -- Packets tell bytes, so PAGE and PHASE stay bytes after any of them. For the law `each_line_is_json`:
 -- they are numbers of one object's members. What a part writes has bytes below 256 by its form, and
 -- learning keeps such a PAGE and such a PHASE. A line that was dropped tells nothing.
-use Rattle.std.proofs.Common.{ℕ, ◌<◌, if◌then◌else◌, ◌&&◌, nat_eq, Option, Some, None, List, [], ◌∷◌, ◌++◌}
+use Rattle.std.proofs.Common.{ℕ, ◌<◌, if◌then◌else◌, ◌&&◌, ◌||◌, length, nat_eq, nat_lt, Option, Some, None, List, [], ◌∷◌, ◌++◌}
 use Rattle.std.proofs.Common.{fold, map, arith}
 use Rattle.std.specs.Prelude.{IfSome, option_and_then}
 use Rattle.std.specs.List.{AllByRecursion}
@@ -12,12 +12,12 @@ use Rattle.pmb_unknown_start.specs.declared.start.Start.{Start}
 use Rattle.pmb_unknown_start.specs.declared.start.Start.TheVariants.{AllKnown, Late, LateFixedMode}
 use Rattle.pmb_unknown_start.specs.Known.{KnownPaging, first_known, first_page, forget_modes, forget_paging, known}
 use Rattle.pmb_unknown_start.specs.Known.{learn_bytes, learn_mode, learn_past, learn_told, learn_transaction}
-use Rattle.pmb_unknown_start.specs.Known.{learn_value, learn_written, page, told_by_read}
+use Rattle.pmb_unknown_start.specs.Known.{learn_value, learn_written, own_page, page, page_of, told_by_read}
 use Rattle.pmb_unknown_start.specs.Past.{PastData, Said, Dropped}
 use Rattle.pmb_unknown_start.specs.Phase.{last_phase, only_byte, phase, phase_code, phase_of, told_phase, told_since}
 use Rattle.pmb_unknown_start.specs.Phase.{told_then}
 use Rattle.pmb_unknown_start.specs.Restores.{untells}
-use Rattle.pmb_note.specs.Paging.{RegisterTold, page_code, told, told_by_part, vout_mode_code}
+use Rattle.pmb_note.specs.Paging.{RegisterTold, all_pages, page_code, told, told_by_part, vout_mode_code}
 use Rattle.pmb_json_text.specs.Spelling.{AreBytes}
 use Rattle.pmb_transaction.specs.Packet.{Packet, PartsEvents}
 use Rattle.pmb_transaction.specs.Transaction.{PartData, TransactionData, Write, Read, Call, Refused, Alert, NoAlert}
@@ -95,8 +95,13 @@ module _ (device : DeviceParts) where
   behind_forgetting LateFixedMode k is = is
 
   -- after a line that was dropped PAGE stays, or is not known
+  behind_own : (modes : List (Option ℕ)) (page : Option ℕ) → IsByteIfKnown page → IsByteIfKnown (own_page modes page)
+  behind_own modes None is = tt
+  behind_own modes (Some page) is = of_either IsByteIfKnown (nat_lt page (length modes) || nat_eq page all_pages)
+      (Some page) None is tt
+
   behind_drop : (start : Start) (k : KnownPaging) → HasBytePage k → HasBytePage (forget_paging start k)
-  behind_drop AllKnown k is = is
+  behind_drop AllKnown k is = behind_own k.modes k.page is
   behind_drop Late k is = tt
   behind_drop LateFixedMode k is = tt
 
@@ -140,16 +145,16 @@ at_first_known AllKnown = omega arith
 at_first_known Late = tt
 at_first_known LateFixedMode = tt
 
-page_of : (start : Start) (past : List PastData) (found : Option DeviceParts) → AllTellBytes past
-    → IsByteIfKnown (option_and_then (λ device. (known start device past).page) found)
-page_of start past None tell = tt
-page_of start past (Some device) tell =
+page_found : (start : Start) (past : List PastData) (found : Option DeviceParts) → AllTellBytes past
+    → IsByteIfKnown (page_of (λ device. known start device past) found)
+page_found start past None tell = tt
+page_found start past (Some device) tell =
     behind_past device start past (first_known start device) tell (at_first_known start)
 
 -- PAGE is a byte after what tells bytes
 pub page_is_byte : (start : Start) (profile : List DeviceParts) (past : List PastData) (addr : ℕ) → AllTellBytes past
     → IfSome (page start profile past addr) (λ page. page < 256)
-page_is_byte start profile past addr tell = page_of start past (device_with addr profile) tell
+page_is_byte start profile past addr tell = page_found start past (device_with addr profile) tell
 
 -- ---- PHASE
 

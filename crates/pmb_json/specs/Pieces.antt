@@ -1,13 +1,10 @@
 -- What is said of a piece of a capture, beside what is said of the whole.
 use Rattle.std.specs.Prelude.{◌≡◌, ◌⊎◌, ℕ, ◌+◌, IfSome, Option, Some, List, [], ◌∷◌, ◌++◌, codes}
-use Rattle.std.specs.List.{AllByRecursion, Contains}
+use Rattle.std.specs.List.{Contains}
 use Rattle.pmb_bus.specs.declared.event.Event.{Event}
 use Rattle.pmb_bus.specs.Text.{EndsBetween, Spells}
 use Rattle.pmb_command.specs.Parts.{DeviceParts, device_with}
-use Rattle.pmb_facts.specs.Fact.{FactData}
-use Rattle.pmb_note.specs.Paging.{paging}
-use Rattle.pmb_unknown_start.specs.Certain.{CanBeCutAfter, DropsOnOwnPage}
-use Rattle.pmb_unknown_start.specs.Past.{PastData, transactions_of}
+use Rattle.pmb_unknown_start.specs.Certain.{CanBeCutAfter}
 use Rattle.pmb_unknown_start.specs.declared.start.Start.{Start}
 use Rattle.pmb_unknown_start.specs.declared.start.Start.TheVariants.{AllKnown}
 use Rattle.pmb_json_text.specs.Json.{null, string}
@@ -27,12 +24,14 @@ all_known choice = record choice { start = AllKnown }
 abbrev pub IsWhere : Member → Type 0
 IsWhere m = (m.key ≡ codes "at") ⊎ ((m.key ≡ codes "line") ⊎ (m.key ≡ codes "column"))
 
--- that PAGE, PHASE, or the VOUT_MODE of a voltage, is not known, or that this one is assumed
+-- that PAGE, PHASE, or the VOUT_MODE of a voltage, is not known, or that PAGE or this one is assumed
 abbrev pub IsUnknown : Member → Type 0
 IsUnknown m =
     (m ≡ named (codes "page") null)
     ⊎ ((m ≡ named (codes "phase") null)
-    ⊎ ((m ≡ named (codes "raw") (string (codes "unknown"))) ⊎ (m ≡ named (codes "mode") (string (codes "assumed")))))
+    ⊎ ((m ≡ named (codes "raw") (string (codes "unknown")))
+    ⊎ ((m ≡ named (codes "mode") (string (codes "assumed")))
+    ⊎ (m ≡ named (codes "page_mode") (string (codes "assumed"))))))
 
 -- A time that a piece tells is that of the whole. (Where the cut is after a time line, the piece
 -- lacks that one.)
@@ -95,15 +94,3 @@ pub record CanBeCutBehind (profile : List DeviceParts) (start : Start) (front : 
   pub reads : Spans profile events spans
   pub told : (addr : ℕ) (device : DeviceParts) → device_with addr profile ≡ Some device
       → CanBeCutAfter start device (past_in (lost_in profile 0 events) spans)
-
--- ---- lines of a piece that were dropped, and what was lost at its refusals
-
--- What went before in a piece, with these before it in the whole: PAGE of each device is a page that it has,
--- or ffh, at each line of the piece that was dropped, and at each refusal at which something was lost.
-abbrev pub DropsOnOwnPages : List DeviceParts → List PastData → List PastData → Type 0
-DropsOnOwnPages profile before past = (addr : ℕ) (device : DeviceParts) → device_with addr profile ≡ Some device
-    → DropsOnOwnPage device (paging device (transactions_of before)) past
-
--- .. before each fact of the piece
-abbrev pub AllDropsOnOwnPages : List DeviceParts → List PastData → List FactData → Type 0
-AllDropsOnOwnPages profile before facts = AllByRecursion (λ fact. DropsOnOwnPages profile before fact.before) facts

@@ -18,7 +18,7 @@ ghost use Rattle.pmb_json.specs.Cut.{AreOfPieces, said_in};
 ghost use Rattle.pmb_json.specs.Lines.{AllMakeFormats, AreJsonLines};
 ghost use Rattle.pmb_json.specs.Mended.{CanBeMended};
 ghost use Rattle.pmb_json.specs.Objects.{objects_of};
-ghost use Rattle.pmb_json.specs.Pieces.{AllDropsOnOwnPages, CanBeCutBehind, DropsOnOwnPages, EachSaysNoMore, EndsWithLine, IsMeaning, OtherTimes, SameTimes, SaysNoMore, TellNoMore, Timing, all_known};
+ghost use Rattle.pmb_json.specs.Pieces.{CanBeCutBehind, EachSaysNoMore, EndsWithLine, IsMeaning, OtherTimes, SameTimes, SaysNoMore, TellNoMore, Timing, all_known};
 ghost use Rattle.pmb_json_objects.specs.Counts.{CountsData, end_objects};
 ghost use Rattle.pmb_json_objects.specs.Object.{Object, object_lines};
 ghost use Rattle.pmb_json_text.specs.Member.{Member};
@@ -47,7 +47,7 @@ use pmb_spans::laws::{each_list_has_spans, spans_may_be_cut, spans_move};
 use pmb_telling::laws::{one_list_of_facts, some_text_is_told};
 use pmb_times::laws::{times_are_short, times_of_a_piece};
 use pmb_unknown_start::laws::{
-    all_that_is_known_is_the_context, pieces_say_what_the_whole_says, what_is_known_is_certain,
+    pieces_say_what_the_whole_says, what_is_known_is_certain, what_may_be_reached_stays_known,
 };
 
 /// Where facts are told as objects, their lines are the lines of their objects. What is written for a
@@ -97,20 +97,17 @@ pub fn meanings_of_pieces_are_of_the_whole()
 /// only assumed. So it is under a profile that is accepted, if before the piece PAGE was only written to, or
 /// read as, pages that the device has, or ffh, and with `--fixed-vout-mode` if on each page VOUT_MODE is that
 /// of the profile where the piece begins, by what was written to it or read as it. Lines of the piece may have
-/// been dropped, in the whole as well, and packets of it refused, if PAGE, as the whole was told it, is such a
-/// page at each of these lines and at each refusal at which something may be lost. A time that the piece tells
-/// is that of the whole.
+/// been dropped, in the whole as well, and packets of it refused. A time that the piece tells is that of the
+/// whole.
 pub fn pieces_say_no_more()
     ensures { (choice : ChoiceData) (profile : List DeviceParts) (place there : ℕ → Place) (times theirs : ℕ → Option (List ℕ)) (before within : List PastData) (n m : ℕ) (events : List Event) (spans : List Span)
         → IsBus profile → choice.start ≢ AllKnown → TellNoMore n times theirs
         → ((addr : ℕ) (device : DeviceParts) → device_with addr profile ≡ Some device → CanBeCutAfter choice.start device before)
-        → DropsOnOwnPages profile before (within ++ past_in (lost_in profile m events) spans)
         → EachSaysNoMore SameTimes (objects_of choice profile (span_facts choice.ignored place times (lost_in profile m events) within spans))
         (objects_of (all_known choice) profile (span_facts choice.ignored there theirs (lost_in profile (n + m) events) (before ++ within) (moved_spans n spans))) }
 {
     objects_are_of_facts();
     pieces_say_what_the_whole_says();
-    all_that_is_known_is_the_context();
 }
 
 /// A capture that has lost lines says nothing that was not so on the bus: where it is read late, and reading
@@ -119,18 +116,15 @@ pub fn pieces_say_no_more()
 /// the lines had, if what follows them reads as the same packets and refusals, if after them PAGE of each device
 /// is a page that it has, or ffh; and if VOUT_MODE is taken for fixed, if on each page it is what it was before
 /// the line. Where the capture begins each device is to have such a PAGE, and if VOUT_MODE is taken for fixed that
-/// of the profile on each page. Such a PAGE it is to have too at each refusal after those lines at which something
-/// may be lost. A time that the piece tells is that of the whole.
+/// of the profile on each page. A time that the piece tells is that of the whole.
 pub fn damaged_pieces_say_no_more()
     ensures { (choice : ChoiceData) (profile : List DeviceParts) (place there : ℕ → Place) (times theirs : ℕ → Option (List ℕ)) (before ts : List TransactionData) (within : List PastData) (n m : ℕ) (events : List Event) (spans : List Span)
         → TellNoMore n times theirs → CanBeMended choice.start profile before within ts
-        → DropsOnOwnPages profile (map Said (before ++ ts)) (past_in (lost_in profile m events) spans)
         → EachSaysNoMore SameTimes (objects_of choice profile (span_facts choice.ignored place times (lost_in profile m events) within spans))
         (objects_of (all_known choice) profile (span_facts choice.ignored there theirs (lost_in profile (n + m) events) (map Said (before ++ ts)) (moved_spans n spans))) }
 {
     objects_are_of_facts();
-    what_is_known_is_certain();
-    all_that_is_known_is_the_context();
+    what_may_be_reached_stays_known();
 }
 
 /// What is known late is so on the bus, by its events alone: PAGE, VOUT_MODE and PHASE of a device that are known
@@ -165,22 +159,18 @@ pub fn what_is_known_late_holds_on_the_bus()
 /// each of the rest's, whose object says no more than that of the whole: so each `value` that the rest
 /// gives is that of the whole, and each `time` too where the cut is at a line's end. (Where it is in the
 /// middle of a line, a comment after it can look like a time line of the rest.) So it is under a profile
-/// that is accepted, if PAGE of each device is a page that it has, or ffh, at each line of the rest that is
-/// dropped and that a fact follows, and at each of its refusals that a fact follows, if something may be lost
-/// there.
+/// that is accepted.
 pub fn texts_of_pieces_say_no_more()
     ensures values { (choice : ChoiceData) (profile : List DeviceParts) (after : AfterBadToken) (front back : List ℕ)
         (bad lines : List BadLine) (facts whole : List FactData) (c d : CountsData) → IsBus profile → choice.start ≢ AllKnown → (first : CanBeCutBehind profile choice.start front)
         → FactsFrom choice.ignored profile after at_first back bad facts c
         → FactsFrom choice.ignored profile after at_first (front ++ back) lines whole d
-        → AllDropsOnOwnPages profile (past_in (lost_in profile 0 first.events) first.spans) facts
         → (firsts : List FactData) × (others : List FactData) × (whole ≡ firsts ++ others)
         × EachSaysNoMore OtherTimes (objects_of choice profile facts) (objects_of (all_known choice) profile others) }
     ensures times { (choice : ChoiceData) (profile : List DeviceParts) (after : AfterBadToken) (front back : List ℕ)
         (bad lines : List BadLine) (facts whole : List FactData) (c d : CountsData) → IsBus profile → choice.start ≢ AllKnown → (first : CanBeCutBehind profile choice.start front) → EndsWithLine front
         → FactsFrom choice.ignored profile after at_first back bad facts c
         → FactsFrom choice.ignored profile after at_first (front ++ back) lines whole d
-        → AllDropsOnOwnPages profile (past_in (lost_in profile 0 first.events) first.spans) facts
         → (firsts : List FactData) × (others : List FactData) × (whole ≡ firsts ++ others)
         × EachSaysNoMore SameTimes (objects_of choice profile facts) (objects_of (all_known choice) profile others) }
 {
@@ -191,7 +181,6 @@ pub fn texts_of_pieces_say_no_more()
     spans_move();
     spans_may_be_cut();
     pieces_say_what_the_whole_says();
-    all_that_is_known_is_the_context();
 }
 
 /// What the pieces of a capture say, the whole says, and nothing else: where a text is cut between words

@@ -8,6 +8,7 @@ use Rattle.pmb_command.specs.Bus.{IsBus, IsDevice}
 use Rattle.pmb_command.specs.Names.{IsDeviceName}
 use Rattle.pmb_command.specs.Parts.{CommandParts, DeviceParts, device_with}
 use Rattle.pmb_command_data.specs.Phases.{has_phases}
+use Rattle.pmb_json_fields.specs.declared.basis.Basis.{Basis}
 use Rattle.pmb_json_text.specs.Json.{string}
 use Rattle.pmb_json_text.specs.Member.{Member, count, named}
 use Rattle.pmb_json_text.specs.Spelling.{IsWritable}
@@ -15,10 +16,10 @@ use Rattle.pmb_json_text.specs.Json.{HasDistinctKeys}
 use Rattle.pmb_json_objects.specs.Head.{Head}
 use Rattle.pmb_json_objects.specs.Laws.{IsCount, IsHead, IsSeen, IsTime}
 use Rattle.pmb_json_objects.specs.Members.{at_command, code_member, command_members, device_member, device_members}
-use Rattle.pmb_json_objects.specs.Members.{entry_members, head_members, kind_member, name_at, name_members}
-use Rattle.pmb_json_objects.specs.Members.{page_member, part_members, phase_member, selected_value, sent_command}
+use Rattle.pmb_json_objects.specs.Members.{entry_members, head_members, is_marked, kind_member, name_at, name_members}
+use Rattle.pmb_json_objects.specs.Members.{page_members, page_mode_member, part_members, phase_member, selected_value, sent_command}
 use Rattle.pmb_json_objects.specs.Members.{time_members, where_members}
-use Rattle.pmb_json_objects.specs.Seen.{SeenData, page_at, phase_at}
+use Rattle.pmb_json_objects.specs.Seen.{SeenData, page_at, page_basis_at, phase_at}
 use Rattle.pmb_json_objects.proofs.Commands.{at_each, has_texts}
 use Rattle.pmb_json_objects.proofs.Fine.{AreFine, DigitsAreNumbers, HasTexts, IsFine, are_bytes, fine_count}
 use Rattle.pmb_json_objects.proofs.Fine.{fine_digits, fine_null, fine_of_both, fine_text, fine_word, of_either}
@@ -37,7 +38,7 @@ abbrev pub name_keys : List (List ℕ)
 name_keys = codes "device" ∷ codes "name" ∷ []
 
 abbrev pub command_keys : List (List ℕ)
-command_keys = codes "code" ∷ codes "command" ∷ codes "page" ∷ codes "phase" ∷ []
+command_keys = codes "code" ∷ codes "command" ∷ codes "page" ∷ codes "page_mode" ∷ codes "phase" ∷ []
 
 -- ---- a device
 
@@ -99,27 +100,36 @@ module _ (numbers : DigitsAreNumbers) where
   fine_selected key None plain small = fine_null key plain
   fine_selected key (Some n) plain small = fine_number key n plain small
 
-  fine_page : (paged : Bool) (page : Option ℕ) → IfSome page (λ n. n < 256) → AreFine (page_member paged page)
-  fine_page false page small = tt
-  fine_page true page small = (fine_selected (codes "page") page refl small, tt)
+  fine_page_mode : (page : Option ℕ) (basis : Basis) (pages : ℕ) → AreFine (page_mode_member page basis pages)
+  fine_page_mode page basis pages = of_either AreFine (is_marked page basis pages)
+      (named (codes "page_mode") (string (codes "assumed")) ∷ []) []
+      (fine_word (codes "page_mode") (codes "assumed") refl refl, tt) tt
+
+  fine_page : (paged : Bool) (page : Option ℕ) (basis : Basis) (pages : ℕ) → IfSome page (λ n. n < 256)
+      → AreFine (page_members paged page basis pages)
+  fine_page false page basis pages small = tt
+  fine_page true page basis pages small =
+      (fine_selected (codes "page") page refl small, fine_page_mode page basis pages)
 
   fine_phase : (phased : Bool) (phase : Option ℕ) → IfSome phase (λ n. n < 256) → AreFine (phase_member phased phase)
   fine_phase false phase small = tt
   fine_phase true phase small = (fine_selected (codes "phase") phase refl small, tt)
 
-  fine_entry : (page phase : Option ℕ) (device : DeviceParts) (c : CommandParts) → IfSome page (λ n. n < 256)
-      → IfSome phase (λ n. n < 256) → HasTexts c → AreFine (entry_members page phase device c)
-  fine_entry page phase device c small few texts = (
+  fine_entry : (page : Option ℕ) (basis : Basis) (phase : Option ℕ) (device : DeviceParts) (c : CommandParts)
+      → IfSome page (λ n. n < 256) → IfSome phase (λ n. n < 256) → HasTexts c
+      → AreFine (entry_members page basis phase device c)
+  fine_entry page basis phase device c small few texts = (
     fine_text (codes "command") c.entry.name refl texts.name,
-    fine_of_both (page_member c.entry.paged page) (phase_member (has_phases device c) phase)
-        (fine_page c.entry.paged page small) (fine_phase (has_phases device c) phase few),
+    fine_of_both (page_members c.entry.paged page basis device.pages) (phase_member (has_phases device c) phase)
+        (fine_page c.entry.paged page basis device.pages small) (fine_phase (has_phases device c) phase few),
   )
 
   pub fine_command : (seen : SeenData) (addr code : ℕ) → IsSeen seen addr → AreFine (command_members seen addr code)
   fine_command seen addr code is = (
     fine_digits (codes "code") (code ∷ []) refl,
-    at_each AreFine tt (entry_members (page_at seen addr) (phase_at seen addr)) seen addr code
-        (λ device c here there. fine_entry (page_at seen addr) (phase_at seen addr) device c is.page is.phase
+    at_each AreFine tt (entry_members (page_at seen addr) (page_basis_at seen addr) (phase_at seen addr)) seen addr code
+        (λ device c here there. fine_entry (page_at seen addr) (page_basis_at seen addr) (phase_at seen addr) device c
+        is.page is.phase
         (has_texts seen addr device here code c there is.bus)),
   )
 
@@ -154,34 +164,48 @@ keys_of_part part parts = keys_of_either (nat_le parts 1) []
     (named (codes "part") (count part) ∷ named (codes "parts") (count parts) ∷ []) part_keys (tested [] part_keys refl)
     (tested _ part_keys refl)
 
-keys_of_page : (paged : Bool) (page : Option ℕ) → HaveKeys (page_member paged page) (codes "page" ∷ [])
-keys_of_page false page = tested [] (codes "page" ∷ []) refl
-keys_of_page true page = tested _ (codes "page" ∷ []) refl
+keys_of_page_mode : (page : Option ℕ) (basis : Basis) (pages : ℕ)
+    → HaveKeys (page_mode_member page basis pages) (codes "page_mode" ∷ [])
+keys_of_page_mode page basis pages = keys_of_either (is_marked page basis pages)
+    (named (codes "page_mode") (string (codes "assumed")) ∷ []) [] (codes "page_mode" ∷ [])
+    (tested _ (codes "page_mode" ∷ []) refl) (tested [] (codes "page_mode" ∷ []) refl)
+
+abbrev page_keys : List (List ℕ)
+page_keys = codes "page" ∷ codes "page_mode" ∷ []
+
+keys_of_page : (paged : Bool) (page : Option ℕ) (basis : Basis) (pages : ℕ)
+    → HaveKeys (page_members paged page basis pages) page_keys
+keys_of_page false page basis pages = tested [] page_keys refl
+keys_of_page true page basis pages =
+    followed (named (codes "page") (selected_value page) ∷ []) (page_mode_member page basis pages)
+    (codes "page" ∷ []) (codes "page_mode" ∷ []) (tested _ (codes "page" ∷ []) refl)
+    (keys_of_page_mode page basis pages)
 
 keys_of_phase : (phased : Bool) (phase : Option ℕ) → HaveKeys (phase_member phased phase) (codes "phase" ∷ [])
 keys_of_phase false phase = tested [] (codes "phase" ∷ []) refl
 keys_of_phase true phase = tested _ (codes "phase" ∷ []) refl
 
 abbrev entry_keys : List (List ℕ)
-entry_keys = codes "command" ∷ codes "page" ∷ codes "phase" ∷ []
+entry_keys = codes "command" ∷ codes "page" ∷ codes "page_mode" ∷ codes "phase" ∷ []
 
-keys_of_entry : (page phase : Option ℕ) (device : DeviceParts) (c : CommandParts)
-    → HaveKeys (entry_members page phase device c) entry_keys
-keys_of_entry page phase device c =
-    let paged : List Member = page_member c.entry.paged page in
+keys_of_entry : (page : Option ℕ) (basis : Basis) (phase : Option ℕ) (device : DeviceParts) (c : CommandParts)
+    → HaveKeys (entry_members page basis phase device c) entry_keys
+keys_of_entry page basis phase device c =
+    let paged : List Member = page_members c.entry.paged page basis device.pages in
     let phased : List Member = phase_member (has_phases device c) phase in
     followed (named (codes "command") (string c.entry.name) ∷ []) (paged ++ phased) (codes "command" ∷ [])
-    (codes "page" ∷ codes "phase" ∷ []) (tested _ (codes "command" ∷ []) refl)
-    (followed paged phased (codes "page" ∷ []) (codes "phase" ∷ []) (keys_of_page c.entry.paged page)
+    (codes "page" ∷ codes "page_mode" ∷ codes "phase" ∷ []) (tested _ (codes "command" ∷ []) refl)
+    (followed paged phased page_keys (codes "phase" ∷ []) (keys_of_page c.entry.paged page basis device.pages)
     (keys_of_phase (has_phases device c) phase))
 
 pub keys_of_command : (seen : SeenData) (addr code : ℕ) → HaveKeys (command_members seen addr code) command_keys
 keys_of_command seen addr code =
-    let members = entry_members (page_at seen addr) (phase_at seen addr) in
+    let members = entry_members (page_at seen addr) (page_basis_at seen addr) (phase_at seen addr) in
     followed (code_member code) (at_command seen addr code members) (codes "code" ∷ []) entry_keys
     (tested _ (codes "code" ∷ []) refl)
     (at_each (λ ms. HaveKeys ms entry_keys) (tested [] entry_keys refl) members seen addr code
-    (λ device c here there. keys_of_entry (page_at seen addr) (phase_at seen addr) device c))
+    (λ device c here there.
+    keys_of_entry (page_at seen addr) (page_basis_at seen addr) (phase_at seen addr) device c))
 
 pub keys_of_sent_command : (seen : SeenData) (addr : ℕ) (sent : List ℕ)
     → HaveKeys (sent_command seen addr sent) command_keys

@@ -34,7 +34,7 @@ object_keys =
     codes "at" ∷ codes "line" ∷ codes "column" ∷ codes "time" ∷ codes "kind" ∷ codes "part" ∷ codes "parts"
     ∷ codes "reason" ∷ codes "expected" ∷ codes "got" ∷ codes "device" ∷ codes "name"
     ∷ codes "writes" ∷ codes "reads" ∷ codes "calls" ∷ codes "packets" ∷ codes "refused" ∷ codes "refusals"
-    ∷ codes "bad_tokens" ∷ codes "others" ∷ codes "code" ∷ codes "command" ∷ codes "page" ∷ codes "phase"
+    ∷ codes "bad_tokens" ∷ codes "others" ∷ codes "code" ∷ codes "command" ∷ codes "page" ∷ codes "page_mode" ∷ codes "phase"
     ∷ codes "bytes" ∷ codes "byte" ∷ codes "sent" ∷ codes "reply" ∷ codes "pec" ∷ codes "right_pec" ∷ codes "word"
     ∷ codes "value" ∷ codes "number" ∷ codes "ratio" ∷ codes "mode" ∷ codes "unit" ∷ codes "raw" ∷ codes "bits"
     ∷ codes "clears" ∷ codes "text" ∷ codes "says" ∷ []

@@ -1,13 +1,15 @@
 -- The members that objects share.
-use Rattle.std.specs.Prelude.{ℕ, Bool, true, false, if◌then◌else◌, nat_eq, nat_le, Option, Some, None, List, [], ◌∷◌}
+use Rattle.std.specs.Prelude.{ℕ, Bool, true, false, if◌then◌else◌, nat_eq, nat_le, nat_lt, Option, Some, None, List, [], ◌∷◌}
 use Rattle.std.specs.Prelude.{◌++◌, codes, option_and_then}
 use Rattle.pmb_command.specs.Parts.{CommandParts, DeviceParts, command_with, device_with}
 use Rattle.pmb_command_data.specs.Phases.{has_phases}
+use Rattle.pmb_json_fields.specs.declared.basis.Basis.{Basis}
+use Rattle.pmb_json_fields.specs.declared.basis.Basis.TheVariants.{Told, Assumed}
 use Rattle.pmb_json_text.specs.Json.{Json, null, string}
 use Rattle.pmb_json_text.specs.Member.{Member, named, count, digits}
 use Rattle.pmb_places.specs.declared.places.Place.{Place}
 use Rattle.pmb_json_objects.specs.Head.{Head}
-use Rattle.pmb_json_objects.specs.Seen.{SeenData, page_at, phase_at}
+use Rattle.pmb_json_objects.specs.Seen.{SeenData, page_at, page_basis_at, phase_at}
 
 -- where the object begins: the number of its first event, and the place of that one's word
 abbrev pub where_members : ℕ → Place → List Member
@@ -50,10 +52,20 @@ abbrev pub selected_value : Option ℕ → Json
 selected_value None = null
 selected_value (Some n) = if nat_eq n 0xff then string (codes "all") else count n
 
+-- a page that is known, and assumed, is marked, of a device with several
+abbrev pub is_marked : Option ℕ → Basis → ℕ → Bool
+is_marked None basis pages = false
+is_marked (Some page) Told pages = false
+is_marked (Some page) Assumed pages = nat_lt 1 pages
+
+abbrev pub page_mode_member : Option ℕ → Basis → ℕ → List Member
+page_mode_member page basis pages =
+    if is_marked page basis pages then named (codes "page_mode") (string (codes "assumed")) ∷ [] else []
+
 -- of a paged command alone
-abbrev pub page_member : Bool → Option ℕ → List Member
-page_member false page = []
-page_member true page = named (codes "page") (selected_value page) ∷ []
+abbrev pub page_members : Bool → Option ℕ → Basis → ℕ → List Member
+page_members false page basis pages = []
+page_members true page basis pages = named (codes "page") (selected_value page) ∷ page_mode_member page basis pages
 
 -- of a command that has phases alone
 abbrev pub phase_member : Bool → Option ℕ → List Member
@@ -61,10 +73,10 @@ phase_member false phase = []
 phase_member true phase = named (codes "phase") (selected_value phase) ∷ []
 
 -- a command's name, the page where it is paged, and the phase where the device has phases for it
-abbrev pub entry_members : Option ℕ → Option ℕ → DeviceParts → CommandParts → List Member
-entry_members page phase device c =
+abbrev pub entry_members : Option ℕ → Basis → Option ℕ → DeviceParts → CommandParts → List Member
+entry_members page basis phase device c =
     named (codes "command") (string c.entry.name)
-    ∷ page_member c.entry.paged page ++ phase_member (has_phases device c) phase
+    ∷ page_members c.entry.paged page basis device.pages ++ phase_member (has_phases device c) phase
 
 -- what is said of a device and a command of it, where the device has that one
 abbrev pub of_command : (DeviceParts → CommandParts → List Member) → DeviceParts → Option CommandParts → List Member
@@ -83,7 +95,8 @@ at_command seen addr code members = of_device_command members (device_with addr 
 -- code, command, page and phase
 abbrev pub command_members : SeenData → ℕ → ℕ → List Member
 command_members seen addr code =
-    code_member code ++ at_command seen addr code (entry_members (page_at seen addr) (phase_at seen addr))
+    code_member code
+    ++ at_command seen addr code (entry_members (page_at seen addr) (page_basis_at seen addr) (phase_at seen addr))
 
 -- .. of bytes that were sent, where there is a code
 abbrev pub sent_command : SeenData → ℕ → List ℕ → List Member

@@ -7,15 +7,16 @@ ghost use Rattle.std.specs.Option.{ForSome};
 ghost use Rattle.pmb_keys.specs.CommandView.{command_parts};
 ghost use Rattle.pmb_json_text.specs.declared.item_order.ItemOrder.TheVariants.{First, Later};
 ghost use Rattle.pmb_json_text.specs.Member.{digits, is_key, members_text, named};
-ghost use Rattle.pmb_json_objects.specs.Members.{command_members, device_members, entry_members, head_members, name_at, name_members, page_member, part_members, phase_member, selected_value, sent_command, time_members};
+ghost use Rattle.pmb_json_objects.specs.Members.{command_members, device_members, entry_members, head_members, is_marked, name_at, name_members, page_members, page_mode_member, part_members, phase_member, selected_value, sent_command, time_members};
 ghost use Rattle.pmb_json_objects.specs.Head.{head_of};
-ghost use Rattle.pmb_json_objects.specs.Seen.{SeenData, page_at, phase_at};
+ghost use Rattle.pmb_json_objects.specs.Seen.{SeenData, page_at, page_basis_at, phase_at};
 ghost use Rattle.pmb_json_objects.specs.Sees.{Sees};
 
 use crate::head::{Head, TIME};
 use crate::seen::Seen;
 use arrayvec::ArrayVec;
 use pmb_command_data::has_phases;
+use pmb_json_fields::Basis;
 use pmb_json_text::{
     ItemOrder, NULL_MEMBER, NUMBER_MEMBER, TEXT_MEMBER, begin, hex_member, null_member,
     number_member, text_member,
@@ -42,8 +43,14 @@ const NAME_MEMBER: usize = TEXT_MEMBER + 6 * 32;
 /// The most bytes of a page or a phase.
 const SELECTED_MEMBER: usize = NUMBER_MEMBER;
 
+/// The most bytes of the word that a page is assumed.
+const PAGE_MODE_MEMBER: usize = TEXT_MEMBER + 6 * 7;
+
+/// The most bytes of a page, and of that word.
+const PAGE_MEMBERS: usize = SELECTED_MEMBER + PAGE_MODE_MEMBER;
+
 /// The most bytes of a command's name, its page and its phase.
-const ENTRY_MEMBERS: usize = TEXT_MEMBER + 6 * 32 + 2 * SELECTED_MEMBER;
+const ENTRY_MEMBERS: usize = TEXT_MEMBER + 6 * 32 + PAGE_MEMBERS + SELECTED_MEMBER;
 
 /// The most bytes of a code, its command, the page and the phase.
 pub(crate) const COMMAND_MEMBERS: usize = BYTE_MEMBER + ENTRY_MEMBERS;
@@ -145,14 +152,49 @@ fn append_selected<const N: usize>(out: &mut ArrayVec<u8, N>, key: &str, selecte
     }
 }
 
-/// Appends the page of a paged command.
-fn append_page<const N: usize>(out: &mut ArrayVec<u8, N>, seen: &Seen<'_>, addr: u8, paged: bool)
-    requires room { length out.old.items + SELECTED_MEMBER ≤ N }
-    ensures members { (known : SeenData) → Sees seen.now known → out.new.items ≡ out.old.items ++ members_text Later (page_member paged (page_at known addr)) }
-    ensures short { length out.new.items ≤ length out.old.items + SELECTED_MEMBER }
+/// Whether a page is marked as assumed: it is known, and the device has several.
+fn is_marked(page: Option<u8>, basis: Basis, pages: u8) -> bool
+    ensures { result ≡ is_marked page basis pages }
+{
+    match (page, basis) {
+        (Some(_), Basis::Assumed) => pages > 1,
+        (Some(_), Basis::Told) | (None, _) => false,
+    }
+}
+
+/// Appends that a page is assumed, where it is marked so.
+fn append_page_mode<const N: usize>(
+    out: &mut ArrayVec<u8, N>,
+    page: Option<u8>,
+    basis: Basis,
+    pages: u8,
+)
+    requires room { length out.old.items + PAGE_MODE_MEMBER ≤ N }
+    ensures members { out.new.items ≡ out.old.items ++ members_text Later (page_mode_member page basis pages) }
+    ensures short { length out.new.items ≤ length out.old.items + PAGE_MODE_MEMBER }
+{
+    if is_marked(page, basis, pages) {
+        text_member(out, ItemOrder::Later, "page_mode", b"assumed");
+    }
+}
+
+/// Appends the page of a paged command, and whether it is assumed.
+fn append_page<const N: usize>(
+    out: &mut ArrayVec<u8, N>,
+    seen: &Seen<'_>,
+    addr: u8,
+    device: &DeviceProfile,
+    paged: bool,
+)
+    requires room { length out.old.items + PAGE_MEMBERS ≤ N }
+    ensures members { (known : SeenData) → Sees seen.now known
+        → out.new.items ≡ out.old.items ++ members_text Later (page_members paged (page_at known addr) (page_basis_at known addr) device.now.pages) }
+    ensures short { length out.new.items ≤ length out.old.items + PAGE_MEMBERS }
 {
     if paged {
-        append_selected(out, "page", seen.page(addr));
+        let page = seen.page(addr);
+        append_selected(out, "page", page);
+        append_page_mode(out, page, seen.page_basis(addr), device.pages());
     }
 }
 
@@ -176,7 +218,7 @@ fn append_entry<const N: usize>(
     command: &Command,
 )
     requires room { length out.old.items + ENTRY_MEMBERS ≤ N }
-    ensures members { (known : SeenData) → Sees seen.now known → out.new.items ≡ out.old.items ++ members_text Later (entry_members (page_at known addr) (phase_at known addr) device.now (command_parts command.now)) }
+    ensures members { (known : SeenData) → Sees seen.now known → out.new.items ≡ out.old.items ++ members_text Later (entry_members (page_at known addr) (page_basis_at known addr) (phase_at known addr) device.now (command_parts command.now)) }
     ensures short { length out.new.items ≤ length out.old.items + ENTRY_MEMBERS }
 {
     text_member(
@@ -185,7 +227,7 @@ fn append_entry<const N: usize>(
         "command",
         command.entry.name.as_bytes(),
     );
-    append_page(out, seen, addr, command.entry.paged);
+    append_page(out, seen, addr, device, command.entry.paged);
     append_phase(out, seen, addr, has_phases(device, command));
 }
 

@@ -5,14 +5,16 @@
 ghost use Rattle.std.specs.Prelude.{◌≡◌, option_map};
 ghost use Rattle.pmb_command.specs.Parts.{device_with};
 ghost use Rattle.pmb_keys.specs.CommandView.{command_parts};
-ghost use Rattle.pmb_json_objects.specs.Seen.{SeenData, basis_at, command_at, mode_at, page_at, phase_at};
+ghost use Rattle.pmb_json_objects.specs.Seen.{SeenData, basis_at, command_at, late_voltages, mode_at, page_at, page_basis_at, phase_at};
 ghost use Rattle.pmb_json_objects.specs.Sees.{Sees};
+ghost use Rattle.pmb_voltage.specs.Voltage.{voltages_data};
 
 use pmb_decimal::Digits;
 use pmb_json_fields::Basis;
 use pmb_keys::Command;
 use pmb_table::{DeviceProfile, Profile};
 use pmb_unknown_start::{KnownMode, Late};
+use pmb_voltage::Voltages;
 
 /// What is known where a packet begins: the devices, and what was told before of PAGE, PHASE and
 /// VOUT_MODE. Numbers get that many digits after the point.
@@ -62,10 +64,34 @@ impl<'s> Seen<'s> {
         self.late.mode(addr)
     }
 
-    /// What that VOUT_MODE rests on.
-    pub(crate) fn basis(&self, addr: u8) -> Basis
+    /// What PAGE of the device with an address rests on: it is assumed where it would not be known, had the
+    /// capture begun in the middle.
+    pub fn page_basis(&self, addr: u8) -> Basis
+        ensures { (known : SeenData) → Sees self.now known → result ≡ page_basis_at known addr }
+    {
+        Basis::of(self.late.page_late(addr).is_none())
+    }
+
+    /// What the format of its output voltages rests on: it is assumed where VOUT_MODE would not be known then,
+    /// nor, where that names VID, the table.
+    pub fn basis(&self, addr: u8) -> Basis
         ensures { (known : SeenData) → Sees self.now known → result ≡ basis_at known addr }
     {
-        Basis::of(self.late.is_assumed(addr))
+        match self.profile.device(addr) {
+            Some(device) => Basis::of(self.late_voltages(addr, device).is_open()),
+            None => Basis::Told,
+        }
+    }
+
+    // What would be known of that format, had the capture begun in the middle.
+    fn late_voltages<'d>(&self, addr: u8, device: &'d DeviceProfile) -> Voltages<'d>
+        ensures { (known : SeenData) → Sees self.now known → voltages_data result ≡ late_voltages known addr device.now }
+    {
+        Voltages {
+            mode: self.late.mode_late(addr),
+            page: self.late.page_late(addr),
+            coefficients: device.vout_direct(),
+            vid: device.vid(),
+        }
     }
 }

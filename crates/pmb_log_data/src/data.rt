@@ -13,7 +13,7 @@ ghost use Rattle.pmb_log_data.specs.Appends.{Appends};
 
 use crate::bits::append_status;
 use crate::meaning::{MEANING, append_meaning, payload};
-use crate::seen::{basis, device, mode, page};
+use crate::seen::{device, mode, page};
 use crate::text::{append_bytes, append_quoted};
 use crate::voltage::{Reading, append_quantity, append_voltage};
 use arrayvec::ArrayVec;
@@ -147,7 +147,7 @@ fn append_output<const N: usize>(
             coefficients: device.vout_direct(),
             vid: device.vid(),
         },
-        basis: basis(seen, addr),
+        basis: seen.basis(addr),
     };
     append_voltage(out, &reading, command.unit(), bytes);
 }

@@ -5,13 +5,12 @@
 ghost use Rattle.std.specs.Prelude.{◌≡◌, ◌≤◌, length, option_map};
 ghost use Rattle.pmb_command.specs.Entry.{entry_parts};
 ghost use Rattle.pmb_command.specs.Parts.{device_with};
-ghost use Rattle.pmb_json_objects.specs.Seen.{SeenData, basis_at, command_at, entry_at, mode_at, page_at, phase_at};
+ghost use Rattle.pmb_json_objects.specs.Seen.{SeenData, command_at, entry_at, mode_at, page_at, phase_at};
 ghost use Rattle.pmb_json_objects.specs.Sees.{Sees};
 ghost use Rattle.pmb_keys.specs.CommandView.{command_parts};
 ghost use Rattle.pmb_log_data.specs.Text.{or_nothing};
 
 use pmb_command::Entry;
-use pmb_json_fields::Basis;
 use pmb_json_objects::Seen;
 use pmb_keys::Command;
 use pmb_table::DeviceProfile;
@@ -64,13 +63,6 @@ pub(crate) fn mode(seen: &Seen<'_>, addr: u8) -> KnownMode
     ensures { (known : SeenData) → Sees seen.now known → result ≡ mode_at known addr }
 {
     seen.late.mode(addr)
-}
-
-/// What that VOUT_MODE rests on.
-pub(crate) fn basis(seen: &Seen<'_>, addr: u8) -> Basis
-    ensures { (known : SeenData) → Sees seen.now known → result ≡ basis_at known addr }
-{
-    Basis::of(seen.late.is_assumed(addr))
 }
 
 /// The name of a device; nothing where it has none.

@@ -5,6 +5,7 @@ pub mod KeptParts
 pub mod Members
 pub mod OneRequest
 pub mod OneRunning
+pub mod Onward
 pub mod Overheard
 pub mod Replies
 pub mod RequestLines

@@ -14,7 +14,7 @@ ghost use Rattle.pmb_io.specs.Outgoing.{PutsText};
 ghost use Rattle.pmb_exchange.specs.Steps.{ExchangeStanding};
 ghost use Rattle.pmb_reader.specs.Reader.{IsBetween, ReaderStandsAt, Standing};
 ghost use Rattle.pmb_transaction.specs.Reading.{Outcome};
-ghost use Rattle.pmb_run.specs.Heard.{ReadsAs};
+ghost use Rattle.pmb_run.specs.Heard.{HearsAt, HearsMore, ReadsAs};
 ghost use Rattle.pmb_run.specs.machine.Bench.{HasRun, HaveHeard, RunsHost, RunsOn, bench_profile};
 
 use pmb_build::put_event;
@@ -32,7 +32,7 @@ use pmb_reader::laws::{
 use pmb_reader::{Reader, Took};
 use pmb_table::Profile;
 use pmb_table::laws::accepted_bus;
-use pmb_transaction::laws::{no_packet_begins_another, one_transaction};
+use pmb_transaction::laws::{no_packet_begins_another, one_transaction, passing_goes_on};
 
 /// The simulated devices of a profile, and what the packets on their bus have told.
 #[derive(Drop)]
@@ -84,6 +84,10 @@ impl<'p> Bench<'p> {
         ensures bus { self.new.bus ≡ self.old.bus }
         ensures reads { (before : List BusEvent) (outcomes : List Outcome) → ReadsAs self.old before outcomes
             → (more : List Outcome) × ReadsAs self.new (before ++ events.now) (outcomes ++ more) }
+
+        // Wherever the last call left the reader, the events are read from there.
+        ensures reads_on { (place : Standing) (ts : List TransactionData) → HearsAt self.old place ts
+            → HearsMore self.new place ts events.now }
     {
         for event in events {
             self.overhear_one(*event);
@@ -96,11 +100,14 @@ impl<'p> Bench<'p> {
         ensures bus { self.new.bus ≡ self.old.bus }
         ensures reads { (before : List BusEvent) (outcomes : List Outcome) → ReadsAs self.old before outcomes
             → (more : List Outcome) × ReadsAs self.new (before ++ event ∷ []) (outcomes ++ more) }
+        ensures reads_on { (place : Standing) (ts : List TransactionData) → HearsAt self.old place ts
+            → HearsMore self.new place ts (event ∷ []) }
     {
         reading_goes_on();
         reading_accepts();
         reading_refuses();
         reading_resumes();
+        passing_goes_on();
         match self.reader.take(event) {
             Took::Continues => {}
             Took::Packet => self.context.observe(self.reader.packet()),

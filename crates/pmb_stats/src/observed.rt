@@ -5,7 +5,7 @@
 ghost use Rattle.std.specs.Prelude.{◌≡◌, List, Option, ℕ};
 ghost use Rattle.pmb_facts.specs.Fact.{WhatData};
 ghost use Rattle.pmb_facts.specs.Stands.{Stands};
-ghost use Rattle.pmb_json_objects.specs.Seen.{SeenData, basis_at};
+ghost use Rattle.pmb_json_objects.specs.Seen.{SeenData};
 ghost use Rattle.pmb_json_objects.specs.Sees.{Sees};
 ghost use Rattle.pmb_keys.specs.CommandView.{command_parts};
 ghost use Rattle.pmb_observed.specs.Observing.{number_seen, observed, read_at, register_of, replied, spot_of, written};
@@ -15,7 +15,6 @@ use crate::place::{page_key, phase_key};
 use crate::word::{number_of, register_of};
 use pmb_command::Kind;
 use pmb_facts::What;
-use pmb_json_fields::Basis;
 use pmb_json_objects::Seen;
 use pmb_keys::Command;
 use pmb_mean::Number;
@@ -110,7 +109,7 @@ fn observe_number(
         vid: device.vid(),
     };
     let kind = command.entry.kind;
-    let number = number_of(&voltages, basis(seen, addr), code, kind, bytes);
+    let number = number_of(&voltages, seen.basis(addr), code, kind, bytes);
     match number {
         Some(number) => Observed::Number {
             spot: spot_of(seen, addr, code, device, command),
@@ -139,13 +138,6 @@ fn observe_register(
         },
         None => Observed::Nothing,
     }
-}
-
-/// What the VOUT_MODE rests on by which output voltages of a device are read.
-fn basis(seen: &Seen<'_>, addr: u8) -> Basis
-    ensures { (known : SeenData) → Sees seen.now known → result ≡ basis_at known addr }
-{
-    Basis::of(seen.late.is_assumed(addr))
 }
 
 /// The spot of a command of a device, on the page and in the phase that are selected.

@@ -1,11 +1,13 @@
--- Where all is known from the start, all stays known and is what the context keeps. For the law
+-- Where all is known from the start, all stays known and is what the context keeps, if PAGE is a page of the
+-- device, or all, at each line that was dropped. For the law
 -- `all_that_is_known_is_the_context`. Each register that is told changes what is known as it
 -- changes what is (Telling), and of known modes the same mode is read.
-use Rattle.std.proofs.Common.{◌≡◌, ℕ, zero, suc, cond, slice_set, Bool, true, false, not, ◌||◌, ◌&&◌, Option, Some}
-use Rattle.std.proofs.Common.{None, List, [], ◌∷◌, length, map, nat_eq, replicate, slice_get, refl, sym, ap, ◌∙◌}
+use Rattle.std.proofs.Common.{◌≡◌, ◌⊎◌, ℕ, zero, suc, ◌<◌, cond, slice_set, Bool, true, false, not, ◌||◌, ◌&&◌, Option}
+use Rattle.std.proofs.Common.{Some, None, List, [], ◌∷◌, length, map, nat_eq, nat_lt, replicate, slice_get, inl, inr}
+use Rattle.std.proofs.Common.{refl, sym, ap, ◌∙◌, arith}
 use Rattle.std.specs.List.{list_all}
 use Rattle.std.specs.Option.{is_some, option_and_then, option_map}
-use Rattle.std.proofs.lemmas.Bool.{eq-eqb}
+use Rattle.std.proofs.lemmas.Bool.{eq-eqb, lt-ltb, or_right}
 use Rattle.std.proofs.lemmas.List.{length-map, map-set}
 use Rattle.pmb_command.specs.Parts.{DeviceParts, device_with}
 use Rattle.pmb_note.specs.Paging.{PagingData, all_pages, common, first_paging, has_paged_mode, paging, selected_mode}
@@ -13,9 +15,9 @@ use Rattle.pmb_note.specs.Paging.{mode as mode_of_whole, page as page_of_whole}
 use Rattle.pmb_unknown_start.specs.declared.mode.KnownMode.TheVariants.{Known, Unknown, NoPage}
 use Rattle.pmb_unknown_start.specs.declared.start.Start.TheVariants.{AllKnown}
 use Rattle.pmb_unknown_start.specs.Past.{PastData, transactions_of}
-use Rattle.pmb_unknown_start.specs.Known.{KnownPaging, first_known, known, known_mode, learn_mode, may_be, mode}
-use Rattle.pmb_unknown_start.specs.Known.{mode_of, mode_on_page, modes_after, page, shared_by, shared_mode}
-use Rattle.pmb_unknown_start.specs.Certain.{known_as}
+use Rattle.pmb_unknown_start.specs.Known.{KnownPaging, first_known, forget_paging, known, known_mode, learn_mode, may_be, mode}
+use Rattle.pmb_unknown_start.specs.Known.{mode_of, mode_on_page, modes_after, page, page_of, shared_by, shared_mode}
+use Rattle.pmb_unknown_start.specs.Certain.{DropsOnOwnPage, known_as}
 use Rattle.pmb_unknown_start.proofs.Telling.{along, set_where}
 
 -- all is known
@@ -45,14 +47,27 @@ modes_set true p value = on_known (nat_eq p.page all_pages) p.modes p.page value
 abbrev IsFull : KnownPaging → PagingData → Type 0
 IsFull k p = k ≡ full p
 
-pub all_is_known : (device : DeviceParts) (past : List PastData)
+-- PAGE stays where a line was dropped
+own_stays : (ns : List ℕ) (page : ℕ) → (page < length ns) ⊎ (page ≡ all_pages)
+    → (nat_lt page (length (map Some ns)) || nat_eq page all_pages) ≡ true
+own_stays ns page (inl less) = ap (λ (b : Bool). b || nat_eq page all_pages)
+    (lt-ltb page (length (map Some ns)) (omega (arith, less, length-map ns Some)))
+own_stays ns page (inr all) = or_right (nat_lt page (length (map Some ns)))
+    (nat_eq page all_pages) (eq-eqb page all_pages all)
+
+-- what is known of PAGE and VOUT_MODE after what went before, from all that they are
+pub all_is_known : (device : DeviceParts) (past : List PastData) → DropsOnOwnPage device (first_paging device) past
     → known AllKnown device past ≡ full (paging device (transactions_of past))
-all_is_known device past = along device IsFull
+all_is_known device past drops = along device IsFull
     (λ k p value is. ap (λ (l : KnownPaging). record { page = Some value; modes = l.modes }) is)
     (λ k p value is. ap (learn_mode device value) is
     ∙ ap (λ (modes : List (Option ℕ)). record { page = Some p.page; modes = modes })
     (modes_set (has_paged_mode device) p value))
-    AllKnown (λ k p is. is) (λ k p is. is) past (first_known AllKnown device) (first_paging device) refl
+    AllKnown (λ k p is. is)
+    (λ k p own is. ap (forget_paging AllKnown) is
+    ∙ ap (λ (b : Bool). record { page = cond b (Some p.page) None; modes = map Some p.modes })
+    (own_stays p.modes p.page own))
+    past (first_known AllKnown device) (first_paging device) drops refl
 
 -- ---- what is read of it
 
@@ -88,23 +103,29 @@ selected true ns i = shared_is ns
 selected false ns i = on_page_is ns i
 
 mode_found : (past : List PastData) (found : Option DeviceParts)
+    → ((device : DeviceParts) → found ≡ Some device → DropsOnOwnPage device (first_paging device) past)
     → mode_of (λ device. known AllKnown device past) found
     ≡ known_as (option_and_then (λ device. selected_mode (paging device (transactions_of past))) found)
-mode_found past None = refl
-mode_found past (Some device) =
+mode_found past None drops = refl
+mode_found past (Some device) drops =
     let p : PagingData = paging device (transactions_of past) in
-    ap known_mode (all_is_known device past) ∙ selected (nat_eq p.page all_pages) p.modes p.page
+    ap known_mode (all_is_known device past (drops device refl)) ∙ selected (nat_eq p.page all_pages) p.modes p.page
 
 pub mode_is_known : (profile : List DeviceParts) (past : List PastData) (addr : ℕ)
+    → ((device : DeviceParts) → device_with addr profile ≡ Some device
+    → DropsOnOwnPage device (first_paging device) past)
     → mode AllKnown profile past addr ≡ known_as (mode_of_whole profile (transactions_of past) addr)
-mode_is_known profile past addr = mode_found past (device_with addr profile)
+mode_is_known profile past addr drops = mode_found past (device_with addr profile) drops
 
 page_found : (past : List PastData) (found : Option DeviceParts)
-    → option_and_then (λ device. (known AllKnown device past).page) found
+    → ((device : DeviceParts) → found ≡ Some device → DropsOnOwnPage device (first_paging device) past)
+    → page_of (λ device. known AllKnown device past) found
     ≡ option_map (λ device. (paging device (transactions_of past)).page) found
-page_found past None = refl
-page_found past (Some device) = ap (λ (k : KnownPaging). k.page) (all_is_known device past)
+page_found past None drops = refl
+page_found past (Some device) drops = ap (λ (k : KnownPaging). k.page) (all_is_known device past (drops device refl))
 
 pub page_is_known : (profile : List DeviceParts) (past : List PastData) (addr : ℕ)
+    → ((device : DeviceParts) → device_with addr profile ≡ Some device
+    → DropsOnOwnPage device (first_paging device) past)
     → page AllKnown profile past addr ≡ page_of_whole profile (transactions_of past) addr
-page_is_known profile past addr = page_found past (device_with addr profile)
+page_is_known profile past addr drops = page_found past (device_with addr profile) drops

@@ -1,7 +1,9 @@
 pub mod Agreeing
 pub mod Telling
 pub mod Drops
-pub mod Cutting
 pub mod Full
+pub mod Under
+pub mod Cutting
 pub mod Assumed
+pub mod Reached
 pub mod LastPhase

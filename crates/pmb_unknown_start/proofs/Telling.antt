@@ -1,14 +1,13 @@
 -- What a transaction tells changes what is known (`KnownPaging`) as it changes what is
--- (`PagingData`). For the law `what_is_known_is_certain`, and for Cutting and Full. Stated once for
+-- (`PagingData`). For the law `what_is_known_is_certain`, and for Full and Reached. Stated once for
 -- any relation between the two that stays when PAGE is told, when VOUT_MODE is, when VOUT_MODE is
 -- untold, and when a line was dropped (`along`); then for agreement: a known PAGE is that one, an unknown
 -- one is a page or all. Agreement stays on every way that PAGE and VOUT_MODE can go (`reaches`): what is
--- untold or dropped agrees with each value. With all known in the whole it stays where at each line that
--- was dropped PAGE is a page or all (`stays`).
+-- untold or dropped agrees with each value.
 use Rattle.std.proofs.Common.{◌≡◌, ◌⊎◌, ℕ, ◌<◌, ◌≤◌, cond, slice_set, Bool, true, false, not, ◌||◌, Option, Some, None}
 use Rattle.std.proofs.Common.{List, [], ◌∷◌, fold, length, map, nat_eq, nat_lt, replicate, slice_get, inl, inr, refl}
 use Rattle.std.proofs.Common.{sym, ap, ◌∙◌, subst, arith}
-use Rattle.std.proofs.lemmas.Bool.{eqb-false, ltb-false}
+use Rattle.std.proofs.lemmas.Bool.{eqb-false, eqb-true, false≢true, ltb-false, ltb-true}
 use Rattle.std.proofs.lemmas.List.{length-replicate, length-set, set_past}
 use Rattle.pmb_command.specs.Parts.{DeviceParts}
 use Rattle.pmb_transaction.specs.Transaction.{TransactionData, Write, Read, Call, Refused, Alert, NoAlert}
@@ -24,9 +23,9 @@ use Rattle.pmb_unknown_start.specs.Restores.{untells}
 use Rattle.pmb_unknown_start.specs.Known.{KnownPaging, any_page, first_known, forget_modes, forget_paging, known}
 use Rattle.pmb_unknown_start.specs.Known.{known_mode, learn_bytes, learn_mode, learn_past, learn_told}
 use Rattle.pmb_unknown_start.specs.Known.{learn_transaction, learn_value, learn_written, mode_on_page, mode_under}
-use Rattle.pmb_unknown_start.specs.Known.{modes_after, shared_mode, told_by_read}
+use Rattle.pmb_unknown_start.specs.Known.{modes_after, own_page, shared_mode, told_by_read}
 use Rattle.pmb_unknown_start.specs.Certain.{AgreesWith, CanBegin, CanFollow, CanFollowDrop, CanFollowPast}
-use Rattle.pmb_unknown_start.specs.Certain.{CanFollowWrites, CanReach, DropsOnOwnPage, IsOwnPage, MayHave}
+use Rattle.pmb_unknown_start.specs.Certain.{CanFollowWrites, CanReach, DropsOnOwnPage, HasOwnPage, IsOwnPage, MayHave}
 use Rattle.pmb_unknown_start.proofs.Agreeing.{Agree, IsShared, IsThat, agree_all, agree_known, agree_none}
 use Rattle.pmb_unknown_start.proofs.Agreeing.{agree_set, on_page, one_of_all, same_length, shared, somewhere_all}
 use Rattle.pmb_unknown_start.proofs.Agreeing.{somewhere_one}
@@ -122,14 +121,15 @@ module _ (device : DeviceParts) (R : KnownPaging → PagingData → Type 0)
     by_transaction (Alert t) k p is = is
     by_transaction NoAlert k p is = is
 
-    -- .. and when a line was dropped
-    pub along : ((k : KnownPaging) (p : PagingData) → R k p → R (forget_paging start k) p)
-        → (past : List PastData) (k : KnownPaging) (p : PagingData) → R k p
+    -- .. and when a line was dropped, where PAGE is a page or all
+    pub along : ((k : KnownPaging) (p : PagingData) → HasOwnPage p → R k p → R (forget_paging start k) p)
+        → (past : List PastData) (k : KnownPaging) (p : PagingData) → DropsOnOwnPage device p past → R k p
         → R (fold (learn_past start device) k past) (paging_from device p (transactions_of past))
-    along dropped [] k p is = is
-    along dropped (Said t ∷ past) k p is = along dropped past (learn_transaction start device k t)
-        (after_transaction device p t) (by_transaction t k p is)
-    along dropped (Dropped ∷ past) k p is = along dropped past (forget_paging start k) p (dropped k p is)
+    along dropped [] k p drops is = is
+    along dropped (Said t ∷ past) k p drops is = along dropped past (learn_transaction start device k t)
+        (after_transaction device p t) drops (by_transaction t k p is)
+    along dropped (Dropped ∷ past) k p drops is =
+        along dropped past (forget_paging start k) p drops.1 (dropped k p drops.0 is)
 
 -- ---- what is known agrees with what is
 
@@ -197,17 +197,28 @@ modes_stay true (Some page) p ms mode is agree =
     (sym is)
     (on_known (nat_eq p.page all_pages) ms p.modes p.page mode agree)
 
--- PAGE stays known where VOUT_MODE is untold
-page_kept : (start : Start) (k : KnownPaging) (n : ℕ) → IsThat k.page n → IsThat (forget_modes start k).page n
-page_kept AllKnown k n is = is
-page_kept Late k n is = is
-page_kept LateFixedMode k n is = is
+-- where a line was dropped, PAGE stays known from the first start if it is a page or all
+kept_if_own : (b : Bool) (n : ℕ) (p q : PagingData) → n ≡ p.page → (b ≡ true → q.page ≡ p.page) → HasOwnPage q
+    → PageAgrees (cond b (Some n) None) q
+kept_if_own true n p q is same own = is ∙ sym (same refl)
+kept_if_own false n p q is same own = own
 
--- .. and is not known late where a line was dropped
-page_dropped : (start : Start) (k : KnownPaging) (n : ℕ) → IsThat k.page n → IsThat (forget_paging start k).page n
-page_dropped AllKnown k n is = is
-page_dropped Late k n is = tt
-page_dropped LateFixedMode k n is = tt
+own_by : (n : ℕ) (ms : List (Option ℕ)) (p : PagingData) → n ≡ p.page → length ms ≡ length p.modes → (b c : Bool)
+    → nat_lt n (length ms) ≡ b → nat_eq n all_pages ≡ c → (b || c) ≡ true → HasOwnPage p
+own_by n ms p is count true c less same own = inl (omega (arith, ltb-true n (length ms) less, is, count))
+own_by n ms p is count false true less same own = inr (sym is ∙ eqb-true n all_pages same)
+own_by n ms p is count false false less same own = absurd (false≢true own)
+
+is_own : (n : ℕ) (ms : List (Option ℕ)) (p : PagingData) → n ≡ p.page → length ms ≡ length p.modes
+    → (nat_lt n (length ms) || nat_eq n all_pages) ≡ true → HasOwnPage p
+is_own n ms p is count own =
+    own_by n ms p is count (nat_lt n (length ms)) (nat_eq n all_pages) refl refl own
+
+page_dropped : (o : Option ℕ) (ms : List (Option ℕ)) (p q : PagingData) → length ms ≡ length p.modes
+    → (HasOwnPage q × (q.modes ≡ p.modes) × (HasOwnPage p → q.page ≡ p.page)) → PageAgrees o p → PageAgrees (own_page ms o) q
+page_dropped None ms p q count way is = way.0
+page_dropped (Some n) ms p q count way is =
+    kept_if_own (nat_lt n (length ms) || nat_eq n all_pages) n p q is (λ own. way.2 (is_own n ms p is count own)) way.0
 
 module _ (device : DeviceParts) where
   -- where VOUT_MODE is untold, what is known agrees with each value
@@ -260,7 +271,11 @@ module _ (device : DeviceParts) where
   left_by_drop : (start : Start) (k : KnownPaging) (p q : PagingData) → CanFollowDrop start device p q
       → Agrees start device k p
       → Agrees start device (forget_paging start k) q
-  left_by_drop AllKnown k p q way is = subst (Agrees AllKnown device k) (sym way) is
+  left_by_drop AllKnown k p q way is = record {
+    page = page_dropped k.page k.modes p q (same_length k.modes p.modes is.modes) way is.page;
+    modes = subst (Agree k.modes) (sym way.1) is.modes;
+    pages = tt;
+  }
   left_by_drop Late k p q way is =
       let pages : length q.modes ≡ device.pages = way.1 ∙ is.pages in
       record {
@@ -271,28 +286,6 @@ module _ (device : DeviceParts) where
   left_by_drop LateFixedMode k p q way is =
       let pages : length q.modes ≡ device.pages = ap (λ (modes : List ℕ). length modes) way.1 ∙ is.pages in
       record { page = own q pages way.0; modes = subst (Agree k.modes) (sym way.1) is.modes; pages = pages }
-
-  -- .. and with what is, if PAGE is a page or all
-  goes_on : (start : Start) (p : PagingData) → IsOwnPage device p.page → CanFollowDrop start device p p
-  goes_on AllKnown p own_page = refl
-  goes_on Late p own_page = (own_page, refl)
-  goes_on LateFixedMode p own_page = (own_page, refl)
-
-  pub stays : (start : Start) (past : List PastData) (k : KnownPaging) (p : PagingData)
-      → DropsOnOwnPage device p past → Agrees start device k p
-      → Agrees start device (fold (learn_past start device) k past) (paging_from device p (transactions_of past))
-  stays start [] k p drops is = is
-  stays start (Said t ∷ past) k p drops is = stays start past (learn_transaction start device k t)
-      (after_transaction device p t) drops (said start t k p is)
-  stays start (Dropped ∷ past) k p drops is = stays start past (forget_paging start k) p drops.1
-      (left_by_drop start k p p (goes_on start p drops.0) is)
-
-  -- PAGE alone needs nothing of what was before
-  pub page_known : (start : Start) (past : List PastData) (k : KnownPaging) (p : PagingData)
-      → IsThat k.page p.page
-      → IsThat (fold (learn_past start device) k past).page (paging_from device p (transactions_of past)).page
-  page_known start = along device (λ k p. IsThat k.page p.page) (λ k p value is. refl) (λ k p value is. is) start
-      (λ k p is. page_kept start k p.page is) (λ k p is. page_dropped start k p.page is)
 
   -- ---- on every way
 
@@ -404,7 +397,7 @@ page_that (Some page) p is = is
 
 module _ (start : Start) (device : DeviceParts) (past : List PastData) (p q : PagingData)
     (begin : CanBegin start device p) (reach : CanReach start device p past q) where
-  reached : Agrees start device (known start device past) q
+  pub reached : Agrees start device (known start device past) q
   reached = reaches device start past (first_known start device) p q reach (begins device start p begin)
 
   pub certain_mode : (o : Option ℕ) (k : KnownMode) → known_mode (known start device past) ≡ k

@@ -19,6 +19,10 @@ use Rattle.pmb_unknown_start.specs.Known.{told_by_read}
 abbrev pub IsOwnPage : DeviceParts → ℕ → Type 0
 IsOwnPage device page = (page < device.pages) ⊎ (page ≡ all_pages)
 
+-- .. by the VOUT_MODEs, one for each page
+abbrev pub HasOwnPage : PagingData → Type 0
+HasOwnPage p = (p.page < length p.modes) ⊎ (p.page ≡ all_pages)
+
 -- What PAGE and VOUT_MODE of a device may be where the capture begins: PAGE selects one of its
 -- pages or all, and each page has any VOUT_MODE, or the one that the profile gives it where that is
 -- fixed.
@@ -49,9 +53,10 @@ CanFollow device p (Alert t) q = q ≡ p
 CanFollow device p NoAlert q = q ≡ p
 
 -- .. and after a line that was dropped: late PAGE selects any of its pages, or all, and VOUT_MODE is any
--- on each page, but for one that is fixed. From the first start both go on.
+-- on each page, but for one that is fixed. From the first start both go on, but for a PAGE that the device
+-- lacks: then it selects any of its pages, or all.
 abbrev pub CanFollowDrop : Start → DeviceParts → PagingData → PagingData → Type 0
-CanFollowDrop AllKnown device p q = q ≡ p
+CanFollowDrop AllKnown device p q = HasOwnPage q × (q.modes ≡ p.modes) × (HasOwnPage p → q.page ≡ p.page)
 CanFollowDrop Late device p q = IsOwnPage device q.page × (length q.modes ≡ length p.modes)
 CanFollowDrop LateFixedMode device p q = IsOwnPage device q.page × (q.modes ≡ p.modes)
 
@@ -84,6 +89,12 @@ AgreesWith (Known known) mode = mode ≡ Some known
 AgreesWith Unknown mode = ⊤
 AgreesWith NoPage mode = mode ≡ None
 
+-- .. and stays so by what more is known
+abbrev pub StaysKnown : KnownMode → KnownMode → Type 0
+StaysKnown (Known known) more = more ≡ Known known
+StaysKnown Unknown more = ⊤
+StaysKnown NoPage more = more ≡ NoPage
+
 -- where all is known, a mode that there isn't is known not to be
 abbrev pub known_as : Option ℕ → KnownMode
 known_as None = NoPage
@@ -109,10 +120,9 @@ CanBeCutAfter Late device before = AllByRecursion (IsOwnPageTold device) (flat_m
 CanBeCutAfter LateFixedMode device before = AllByRecursion (IsOwnPageTold device) (flat_map told (transactions_of before))
     × HasFirstModes device (transactions_of before)
 
--- Where all is known from the start, PAGE goes on over a line that was dropped, and is known late only to be
--- a page that the device has, or ffh: these agree where at each such line PAGE is one of them, from PAGE and
--- VOUT_MODE before all that is said.
+-- At each line that was dropped PAGE is a page of the device, or all, from PAGE and VOUT_MODE before all that is
+-- said.
 abbrev pub DropsOnOwnPage : DeviceParts → PagingData → List PastData → Type 0
 DropsOnOwnPage device p [] = ⊤
 DropsOnOwnPage device p (Said t ∷ past) = DropsOnOwnPage device (after_transaction device p t) past
-DropsOnOwnPage device p (Dropped ∷ past) = IsOwnPage device p.page × DropsOnOwnPage device p past
+DropsOnOwnPage device p (Dropped ∷ past) = HasOwnPage p × DropsOnOwnPage device p past

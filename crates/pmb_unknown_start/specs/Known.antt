@@ -4,8 +4,8 @@
 -- What is told, and what PAGE and VOUT_MODE are, is in `pmb_note`. A PAGE that is not known is one of
 -- the device's pages, or ffh for all. A write that sets VOUT_MODE unseen (`Restores`) leaves it
 -- untold, and a line that was dropped (`Past`) both. That what is known is so is in `Certain`.
-use Rattle.std.specs.Prelude.{ℕ, Bool, true, false, not, if◌then◌else◌, Option, Some, None, List, [], ◌∷◌, fold}
-use Rattle.std.specs.Prelude.{length, map, nat_eq, option_and_then, replicate, slice_get, slice_set}
+use Rattle.std.specs.Prelude.{ℕ, Bool, true, false, not, ◌||◌, if◌then◌else◌, Option, Some, None, List, [], ◌∷◌, fold}
+use Rattle.std.specs.Prelude.{length, map, nat_eq, nat_lt, replicate, slice_get, slice_set}
 use Rattle.std.specs.List.{list_all}
 use Rattle.std.specs.Option.{is_some}
 use Rattle.pmb_command.specs.Parts.{DeviceParts, device_with}
@@ -118,10 +118,15 @@ learn_transaction start device k NoAlert = k
 
 -- ---- what was dropped
 
+-- a PAGE of a device with so many VOUT_MODEs that is one of its pages, or all
+abbrev pub own_page : List (Option ℕ) → Option ℕ → Option ℕ
+own_page modes None = None
+own_page modes (Some page) = if nat_lt page (length modes) || nat_eq page all_pages then Some page else None
+
 -- A line was dropped, which may have set PAGE and VOUT_MODE: late they are not known then, but for a
--- VOUT_MODE that is fixed. From the first start both go on.
+-- VOUT_MODE that is fixed. From the first start both go on, but for a PAGE that the device lacks.
 abbrev pub forget_paging : Start → KnownPaging → KnownPaging
-forget_paging AllKnown k = k
+forget_paging AllKnown k = record { page = own_page k.modes k.page; modes = k.modes }
 forget_paging Late k = record { page = None; modes = replicate (length k.modes) None }
 forget_paging LateFixedMode k = record { page = None; modes = k.modes }
 
@@ -186,9 +191,14 @@ mode_of now (Some device) = known_mode (now device)
 abbrev pub mode : Start → List DeviceParts → List PastData → ℕ → KnownMode
 mode start profile past addr = mode_of (λ device. known start device past) (device_with addr profile)
 
--- its PAGE, where it is known
+-- PAGE of a device, if there is one, by what is known of each
+abbrev pub page_of : (DeviceParts → KnownPaging) → Option DeviceParts → Option ℕ
+page_of now None = None
+page_of now (Some device) = (now device).page
+
+-- .. of the device with an address
 abbrev pub page : Start → List DeviceParts → List PastData → ℕ → Option ℕ
-page start profile past addr = option_and_then (λ device. (known start device past).page) (device_with addr profile)
+page start profile past addr = page_of (λ device. known start device past) (device_with addr profile)
 
 -- ---- what is assumed
 

@@ -6,7 +6,7 @@ ghost use Rattle.std.specs.Prelude.{◌≡◌, ◌≤◌, ◌||◌, None, Some, 
 ghost use Rattle.std.specs.List.{list_all};
 ghost use Rattle.std.specs.Option.{is_some};
 ghost use Rattle.pmb_note.specs.Paging.{has_paged_mode, page_code, vout_mode_code};
-ghost use Rattle.pmb_unknown_start.specs.Known.{any_page, first_known, first_modes, first_page, first_told, forget_modes, forget_paging, kept_under, known_mode, learn_mode, learn_value, may_be, mode_on_page, modes_after, modes_somewhere, shared_by, shared_mode};
+ghost use Rattle.pmb_unknown_start.specs.Known.{any_page, first_known, first_modes, first_page, first_told, forget_modes, forget_paging, kept_under, known_mode, learn_mode, learn_value, may_be, mode_on_page, modes_after, modes_somewhere, own_page, shared_by, shared_mode};
 
 use crate::mode::KnownMode;
 use crate::start::Start;
@@ -97,7 +97,7 @@ impl Known {
         ensures { self.new ≡ forget_paging start self.old }
     {
         match start {
-            Start::AllKnown => {}
+            Start::AllKnown => self.page = own_page(self.modes.as_slice(), self.page),
             Start::Late => {
                 self.page = None;
                 self.modes.as_mut_slice().fill(None);
@@ -125,6 +125,16 @@ pub(crate) fn is_paging(code: u8) -> bool
     ensures { result ≡ (nat_eq code page_code || nat_eq code vout_mode_code) }
 {
     code == PAGE || code == VOUT_MODE
+}
+
+// PAGE where it is one of the device's pages, or ffh.
+fn own_page(modes: &[Option<u8>], page: Option<u8>) -> Option<u8>
+    ensures { result ≡ own_page modes.now page }
+{
+    match page {
+        Some(page) if usize::from(page) < modes.len() || page == ALL_PAGES => Some(page),
+        Some(_) | None => None,
+    }
 }
 
 // PAGE at first.

@@ -8,7 +8,8 @@ ghost use Rattle.pmb_command.specs.Parts.{DeviceParts, device_with};
 ghost use Rattle.pmb_transaction.specs.Transaction.{part_data, transaction_data};
 ghost use Rattle.pmb_note.specs.Paging.{told_by_part};
 ghost use Rattle.pmb_unknown_start.specs.declared.start.Start.{Start as StartData};
-ghost use Rattle.pmb_unknown_start.specs.Known.{KnownPaging, first_known, forget_modes, forget_paging, learn_told, learn_transaction, learn_written, mode_of};
+ghost use Rattle.pmb_unknown_start.specs.declared.start.Start.TheVariants.{Late as LateStart};
+ghost use Rattle.pmb_unknown_start.specs.Known.{KnownPaging, first_known, forget_modes, forget_paging, learn_told, learn_transaction, learn_written, mode_of, page_of};
 ghost use Rattle.pmb_unknown_start.specs.Late.{HasSeen, is_assumed as is_assumed_after, mode as mode_after, page as page_after, phase as phase_after};
 ghost use Rattle.pmb_unknown_start.specs.Past.{PastData, Said, Dropped};
 ghost use Rattle.pmb_unknown_start.specs.machine.Standing.{Keeps, kept_at};
@@ -40,7 +41,8 @@ const ADDRESSES: u8 = 128;
 ///
 /// After a line that was dropped ([`Late::drop_line`]) PAGE and VOUT_MODE of each device are unknown
 /// again with [`Start::Late`], and PAGE alone with [`Start::LateFixedMode`]. With [`Start::AllKnown`]
-/// they keep their last values, which are then assumed.
+/// they keep their last values, which are then assumed; but PAGE is unknown where it was one that the
+/// device lacks.
 ///
 /// PHASE is not known at first with any start, nor after a line that was dropped.
 #[derive(Drop)]
@@ -98,10 +100,7 @@ impl<'p> Late<'p> {
         ensures { (profile : List DeviceParts) (start : StartData) (past : List PastData) → HasSeen self.now profile start past
             → result ≡ page_after start profile past addr }
     {
-        match kept_at(self.profile, self.known.as_slice(), addr) {
-            Some(known) => known.page(),
-            None => None,
-        }
+        page_in(self.profile, self.known.as_slice(), addr)
     }
 
     /// What is known of the VOUT_MODE of the device with an address, on the page that is selected;
@@ -113,9 +112,25 @@ impl<'p> Late<'p> {
         mode_in(self.profile, self.known.as_slice(), addr)
     }
 
-    /// Whether this VOUT_MODE is assumed: with [`Start::Late`] it would be [`KnownMode::Unknown`]. What
-    /// isn't assumed is the same with each start, if PAGE is a page that the device has, or ffh, at each
-    /// line that was dropped.
+    /// The value of PAGE with [`Start::Late`]. Where it is known, it is the same with each start; else
+    /// PAGE is assumed, if it is known with another one.
+    pub fn page_late(&self, addr: u8) -> Option<u8>
+        ensures { (profile : List DeviceParts) (start : StartData) (past : List PastData) → HasSeen self.now profile start past
+            → result ≡ page_after LateStart profile past addr }
+    {
+        page_in(self.profile, self.told.as_slice(), addr)
+    }
+
+    /// What would be known of this VOUT_MODE with [`Start::Late`]. Unless it is [`KnownMode::Unknown`], it
+    /// is the same with each start; else VOUT_MODE is assumed, if it is known with another one.
+    pub fn mode_late(&self, addr: u8) -> KnownMode
+        ensures { (profile : List DeviceParts) (start : StartData) (past : List PastData) → HasSeen self.now profile start past
+            → result ≡ mode_after LateStart profile past addr }
+    {
+        mode_in(self.profile, self.told.as_slice(), addr)
+    }
+
+    /// Whether this VOUT_MODE is assumed: with [`Start::Late`] it would be [`KnownMode::Unknown`].
     pub fn is_assumed(&self, addr: u8) -> bool
         ensures { (profile : List DeviceParts) (start : StartData) (past : List PastData) → HasSeen self.now profile start past
             → result ≡ is_assumed_after profile past addr }
@@ -177,6 +192,17 @@ fn kept_at<'k>(profile: &Profile, kept: &'k [Known], addr: u8) -> Option<&'k Kno
 {
     match profile.device(addr) {
         Some(_) => kept.get(usize::from(addr)),
+        None => None,
+    }
+}
+
+// PAGE of the device with an address, by what is kept.
+fn page_in(profile: &Profile, kept: &[Known], addr: u8) -> Option<u8>
+    ensures { (now : DeviceParts → KnownPaging) → Keeps kept.now profile.now now
+        → result ≡ page_of now (device_with addr profile.now) }
+{
+    match kept_at(profile, kept, addr) {
+        Some(known) => known.page(),
         None => None,
     }
 }

@@ -1,16 +1,17 @@
 //! Laws over the definitions of what is known. Each function ensures some, and does nothing.
 
-ghost use Rattle.std.specs.Prelude.{◌≡◌, ◌≢◌, ◌++◌, ℕ, false, List, None, Some};
+ghost use Rattle.std.specs.Prelude.{◌≡◌, ◌≢◌, ◌++◌, ℕ, List, None, Some, map};
 ghost use Rattle.pmb_command.specs.Bus.{IsBus};
 ghost use Rattle.pmb_command.specs.Parts.{DeviceParts, device_with};
-ghost use Rattle.pmb_note.specs.Paging.{first_paging, paging, mode as mode_of_whole, page as page_of_whole};
+ghost use Rattle.pmb_transaction.specs.Transaction.{TransactionData};
+ghost use Rattle.pmb_note.specs.Paging.{PagingData, first_paging, paging, mode as mode_of_whole, page as page_of_whole};
 ghost use Rattle.pmb_unknown_start.specs.declared.mode.KnownMode.TheVariants.{Known, NoPage};
 ghost use Rattle.pmb_unknown_start.specs.declared.start.Start.{Start};
 ghost use Rattle.pmb_unknown_start.specs.declared.start.Start.TheVariants.{AllKnown, Late};
-ghost use Rattle.pmb_unknown_start.specs.Known.{is_assumed, known, known_mode, mode, page};
-ghost use Rattle.pmb_unknown_start.specs.Past.{PastData, transactions_of};
+ghost use Rattle.pmb_unknown_start.specs.Known.{known, known_mode, mode, page};
+ghost use Rattle.pmb_unknown_start.specs.Past.{PastData, Said, transactions_of};
 ghost use Rattle.pmb_unknown_start.specs.Phase.{phase};
-ghost use Rattle.pmb_unknown_start.specs.Certain.{AgreesWith, CanBeCutAfter, DropsOnOwnPage, IsCertainMode, IsCertainPage, known_as};
+ghost use Rattle.pmb_unknown_start.specs.Certain.{CanBeCutAfter, CanBegin, CanReach, DropsOnOwnPage, IsCertainMode, IsCertainPage, StaysKnown, known_as};
 
 /// What is known is certain: it is so for each VOUT_MODE and each PAGE that the device can have where
 /// the capture begins, one of its pages or ffh, and late also for each VOUT_MODE that a page can have
@@ -27,31 +28,47 @@ pub fn what_is_known_is_certain()
 {}
 
 /// A piece of a capture says of no mode, page or phase what the whole denies: what is known of them in
-/// the piece is so in the whole, of the mode if the capture is cut where it can be, and if PAGE is a page
-/// that the device has, or ffh, at each line of the piece that was dropped. Such a line changes nothing in
-/// the whole, where all is known from the start.
+/// the piece is known in the whole, where all is known from the start, of the mode if the capture is cut
+/// where it can be.
 pub fn pieces_say_what_the_whole_says()
     ensures mode { (profile : List DeviceParts) (start : Start) (before piece : List PastData) (addr : ℕ) → IsBus profile
         → ((device : DeviceParts) → device_with addr profile ≡ Some device → CanBeCutAfter start device before)
-        → ((device : DeviceParts) → device_with addr profile ≡ Some device → DropsOnOwnPage device (paging device (transactions_of before)) piece)
-        → AgreesWith (mode start profile piece addr) (mode_of_whole profile (transactions_of (before ++ piece)) addr) }
+        → StaysKnown (mode start profile piece addr) (mode AllKnown profile (before ++ piece) addr) }
     ensures page { (profile : List DeviceParts) (start : Start) (before piece : List PastData) (addr : ℕ) (number : ℕ) → start ≢ AllKnown
-        → page start profile piece addr ≡ Some number → page_of_whole profile (transactions_of (before ++ piece)) addr ≡ Some number }
+        → page start profile piece addr ≡ Some number → page AllKnown profile (before ++ piece) addr ≡ Some number }
     ensures phase { (profile : List DeviceParts) (before piece : List PastData) (addr : ℕ) (number : ℕ) → phase profile piece addr ≡ Some number
         → phase profile (before ++ piece) addr ≡ Some number }
 {}
 
-/// What is not assumed is the same with each start: where the mode would be known, or known not to be,
-/// had the capture begun in the middle, it is so from the beginning, and where VOUT_MODE is fixed; from
-/// the beginning if PAGE is a page that the device has, or ffh, at each line that was dropped.
-pub fn what_is_not_assumed_is_so_from_each_start()
-    ensures { (profile : List DeviceParts) (start : Start) (past : List PastData) (addr : ℕ) → IsBus profile
-        → (start ≡ AllKnown → (device : DeviceParts) → device_with addr profile ≡ Some device → DropsOnOwnPage device (first_paging device) past)
-        → is_assumed profile past addr ≡ false → mode start profile past addr ≡ mode Late profile past addr }
+/// What is known after lines were dropped is known too where these lines are there, and all is known from
+/// the start: if the transactions that were on the bus lead to a PAGE and VOUT_MODE that may have been
+/// reached. What comes then, comes to both.
+pub fn what_may_be_reached_stays_known()
+    ensures mode { (start : Start) (device : DeviceParts) (p : PagingData) (past rest : List PastData) (ts : List TransactionData)
+        → CanBegin start device p → CanReach start device p past (paging device ts)
+        → StaysKnown (known_mode (known start device (past ++ rest))) (known_mode (known AllKnown device (map Said ts ++ rest))) }
+    ensures page { (start : Start) (device : DeviceParts) (p : PagingData) (past rest : List PastData) (ts : List TransactionData) (page : ℕ)
+        → CanBegin start device p → CanReach start device p past (paging device ts)
+        → (known start device (past ++ rest)).page ≡ Some page → (known AllKnown device (map Said ts ++ rest)).page ≡ Some page }
 {}
 
-/// Where all is known from the start, it is what a `pmb_note::Context` says of the transactions.
+/// What is not assumed is the same with each start: where the mode would be known, or known not to be,
+/// had the capture begun in the middle, it is so from the beginning, and where VOUT_MODE is fixed. So it is
+/// with a PAGE that would be known.
+pub fn what_is_not_assumed_is_so_from_each_start()
+    ensures mode { (profile : List DeviceParts) (start : Start) (past : List PastData) (addr : ℕ) → IsBus profile
+        → StaysKnown (mode Late profile past addr) (mode start profile past addr) }
+    ensures page { (profile : List DeviceParts) (start : Start) (past : List PastData) (addr number : ℕ)
+        → page Late profile past addr ≡ Some number → page start profile past addr ≡ Some number }
+{}
+
+/// Where all is known from the start, it is what a `pmb_note::Context` says of the transactions, if PAGE is a
+/// page that the device has, or ffh, at each line that was dropped.
 pub fn all_that_is_known_is_the_context()
-    ensures mode { (profile : List DeviceParts) (past : List PastData) (addr : ℕ) → mode AllKnown profile past addr ≡ known_as (mode_of_whole profile (transactions_of past) addr) }
-    ensures page { (profile : List DeviceParts) (past : List PastData) (addr : ℕ) → page AllKnown profile past addr ≡ page_of_whole profile (transactions_of past) addr }
+    ensures mode { (profile : List DeviceParts) (past : List PastData) (addr : ℕ)
+        → ((device : DeviceParts) → device_with addr profile ≡ Some device → DropsOnOwnPage device (first_paging device) past)
+        → mode AllKnown profile past addr ≡ known_as (mode_of_whole profile (transactions_of past) addr) }
+    ensures page { (profile : List DeviceParts) (past : List PastData) (addr : ℕ)
+        → ((device : DeviceParts) → device_with addr profile ≡ Some device → DropsOnOwnPage device (first_paging device) past)
+        → page AllKnown profile past addr ≡ page_of_whole profile (transactions_of past) addr }
 {}

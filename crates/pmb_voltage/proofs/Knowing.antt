@@ -5,7 +5,7 @@ use Rattle.std.proofs.Common.{◌≡◌, ◌⊎◌, inl, inr, ℕ, ◌%◌, ◌^
 use Rattle.std.proofs.Common.{Result, Ok, Err, List, [], ◌∷◌, refl, sym, ap, subst}
 use Rattle.std.specs.List.{list_all}
 use Rattle.pmb_command.specs.Parts.{DeviceParts, VidParts, OfPages, OfTypes}
-use Rattle.pmb_unknown_start.specs.Certain.{AgreesWith, known_as}
+use Rattle.pmb_unknown_start.specs.Certain.{StaysKnown}
 use Rattle.pmb_unknown_start.specs.declared.mode.KnownMode.{KnownMode}
 use Rattle.pmb_unknown_start.specs.declared.mode.KnownMode.TheVariants as known
 use Rattle.pmb_value.specs.Vout.{format_of}
@@ -93,21 +93,21 @@ module _ (page whole : Option ℕ) (told : (number : ℕ) → page ≡ Some numb
 
   module _ (device : DeviceParts) (code : ℕ) (sign : Sign) where
     abbrev in_piece : KnownMode → Type 0
-    in_piece mode = (all : Option ℕ) → AgreesWith mode all
+    in_piece mode = (more : KnownMode) → StaysKnown mode more
         → Knows (voltage_format (voltages_of device mode page) code sign)
-        (voltage_format (voltages_of device (known_as all) whole) code sign)
+        (voltage_format (voltages_of device more whole) code sign)
 
     knows_mode : (mode : KnownMode) → in_piece mode
-    knows_mode (known.Known mode) all agrees =
-        subst (λ (o : Option ℕ). Knows (voltage_format (voltages_of device (known.Known mode) page) code sign)
-        (voltage_format (voltages_of device (known_as o) whole) code sign))
-        (sym agrees) (knows_under device (known.Known mode) mode code sign)
-    knows_mode known.Unknown all agrees = inl refl
-    knows_mode known.NoPage all agrees =
-        subst (λ (o : Option ℕ). Knows (voltage_format (voltages_of device known.NoPage page) code sign)
-        (voltage_format (voltages_of device (known_as o) whole) code sign))
-        (sym agrees) (inr refl)
+    knows_mode (known.Known mode) more stays =
+        subst (λ (k : KnownMode). Knows (voltage_format (voltages_of device (known.Known mode) page) code sign)
+        (voltage_format (voltages_of device k whole) code sign))
+        (sym stays) (knows_under device (known.Known mode) mode code sign)
+    knows_mode known.Unknown more stays = inl refl
+    knows_mode known.NoPage more stays =
+        subst (λ (k : KnownMode). Knows (voltage_format (voltages_of device known.NoPage page) code sign)
+        (voltage_format (voltages_of device k whole) code sign))
+        (sym stays) (inr refl)
 
 pub knows_no_other : (device : DeviceParts) → KnowsNoOther device
-knows_no_other device mode all page whole code sign agrees told =
-    knows_mode page whole told device code sign mode all agrees
+knows_no_other device mode more page whole code sign stays told =
+    knows_mode page whole told device code sign mode more stays

@@ -132,3 +132,20 @@ format_by v known.NoPage code sign = Err Page
 -- the format of a command's words
 abbrev pub voltage_format : VoltagesData → ℕ → Sign → Result VoltageFormat NoVoltage
 voltage_format v code sign = format_by v v.mode code sign
+
+-- ---- whether it is known
+
+abbrev pub is_unknown_format : Result VoltageFormat NoVoltage → Bool
+is_unknown_format (Ok format) = false
+is_unknown_format (Err Unknown) = true
+is_unknown_format (Err Page) = false
+is_unknown_format (Err Vid) = false
+is_unknown_format (Err Relative) = false
+is_unknown_format (Err NoCoefficients) = false
+
+abbrev pub vout_command_code : ℕ
+vout_command_code = 0x21
+
+-- The format of output voltages is not known: that of VOUT_COMMAND, which is never a factor.
+abbrev pub is_open : VoltagesData → Bool
+is_open v = is_unknown_format (voltage_format v vout_command_code Unsigned)

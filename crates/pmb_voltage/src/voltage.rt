@@ -3,12 +3,15 @@
 //! Its rows: `tests_json`, `src/fields/voltages.rt`.
 
 ghost use Rattle.std.specs.Prelude.{◌≡◌};
-ghost use Rattle.pmb_voltage.specs.Voltage.{format_under, is_ratio, is_relative_code, is_signed, named_format, vid_format, voltage_format, voltages_data};
+ghost use Rattle.pmb_voltage.specs.Voltage.{format_under, is_open, is_ratio, is_relative_code, is_signed, is_unknown_format, named_format, vid_format, voltage_format, voltages_data};
 
 use crate::tables::vid_table;
 use pmb_keys::VidTables;
 use pmb_unknown_start::KnownMode;
 use pmb_value::{Direct, ModeFault, NumberFormat, Sign, VoutFormat, vout_format};
+
+/// The code of VOUT_COMMAND, which is never a factor.
+const VOUT_COMMAND: u8 = 0x21;
 
 /// Why the words of an output voltage have no value.
 #[derive(Debug, Clone, Copy, PartialEq, Eq)]
@@ -61,6 +64,13 @@ impl Voltages<'_> {
         }
     }
 
+    /// Whether the format of output voltages is not known: VOUT_MODE isn't, or, where it names VID, the table.
+    pub fn is_open(&self) -> bool
+        ensures { result ≡ is_open (voltages_data self.now) }
+    {
+        is_unknown(self.format(VOUT_COMMAND, Sign::Unsigned))
+    }
+
     /// The format under a VOUT_MODE, in place of the one that is known.
     pub fn format_under(&self, mode: u8, code: u8, sign: Sign) -> Result<VoltageFormat, NoVoltage>
         ensures { result ≡ format_under (voltages_data self.now) mode code sign }
@@ -101,6 +111,18 @@ impl Voltages<'_> {
             Sign::Signed => Err(NoVoltage::Vid),
             Sign::Unsigned => Ok(NumberFormat::Vid(vid_table(self.vid, mode, self.page)?)),
         }
+    }
+}
+
+/// Whether a format is not known.
+fn is_unknown(format: Result<VoltageFormat, NoVoltage>) -> bool
+    ensures { result ≡ is_unknown_format format }
+{
+    match format {
+        Err(NoVoltage::Unknown) => true,
+        Ok(_)
+        | Err(NoVoltage::Page | NoVoltage::Vid | NoVoltage::Relative | NoVoltage::Coefficients) =>
+            false,
     }
 }
 

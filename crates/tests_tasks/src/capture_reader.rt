@@ -15,7 +15,7 @@ const CAPTURE: &[u8] =
 
 /// The first two lines are those of docs/json.md.
 const TOLD: &str =
-    "{\"at\":0,\"line\":2,\"column\":1,\"time\":\"0.000025000\",\"kind\":\"write\",\"device\":\"58\",\"code\":\"21\",\"command\":\"VOUT_COMMAND\",\"page\":0,\"bytes\":\"0018\",\"pec\":true,\"value\":\"12\",\"number\":12,\"mode\":\"assumed\",\"unit\":\"V\"}\n{\"at\":12,\"line\":4,\"column\":1,\"time\":\"0.000545000\",\"kind\":\"read\",\"device\":\"58\",\"code\":\"79\",\"command\":\"STATUS_WORD\",\"page\":0,\"bytes\":\"4088\",\"pec\":false,\"bits\":[\"VOUT\",\"POWER_GOOD_N\",\"OFF\"]}\n{\"at\":25,\"line\":5,\"column\":1,\"kind\":\"bad_token\",\"word\":\"xyz\"}\n{\"kind\":\"device\",\"device\":\"58\",\"writes\":1,\"reads\":1,\"calls\":0,\"refused\":0,\"refusals\":0}\n{\"kind\":\"end\",\"packets\":2,\"refusals\":0,\"bad_tokens\":1}\n";
+    "{\"at\":0,\"line\":2,\"column\":1,\"time\":\"0.000025000\",\"kind\":\"write\",\"device\":\"58\",\"code\":\"21\",\"command\":\"VOUT_COMMAND\",\"page\":0,\"page_mode\":\"assumed\",\"bytes\":\"0018\",\"pec\":true,\"value\":\"12\",\"number\":12,\"mode\":\"assumed\",\"unit\":\"V\"}\n{\"at\":12,\"line\":4,\"column\":1,\"time\":\"0.000545000\",\"kind\":\"read\",\"device\":\"58\",\"code\":\"79\",\"command\":\"STATUS_WORD\",\"page\":0,\"page_mode\":\"assumed\",\"bytes\":\"4088\",\"pec\":false,\"bits\":[\"VOUT\",\"POWER_GOOD_N\",\"OFF\"]}\n{\"at\":25,\"line\":5,\"column\":1,\"kind\":\"bad_token\",\"word\":\"xyz\"}\n{\"kind\":\"device\",\"device\":\"58\",\"writes\":1,\"reads\":1,\"calls\":0,\"refused\":0,\"refusals\":0}\n{\"kind\":\"end\",\"packets\":2,\"refusals\":0,\"bad_tokens\":1}\n";
 
 /// What is told of a capture with no packet.
 const NO_PACKETS: &str = "{\"kind\":\"end\",\"packets\":0,\"refusals\":0,\"bad_tokens\":0}\n";

@@ -38,21 +38,21 @@ fn rows() -> &'static [Row] {
 #[rattlefmt::skip]
 static ROWS: [Row; 14] = [
     // PHASE, of commands that have phases, on a device that has phases
-    ("read 58 8c : 00 d3", "write 58 04 02", "{\"at\":3,\"line\":4,\"column\":5,\"kind\":\"read\",\"device\":\"58\",\"code\":\"8c\",\"command\":\"READ_IOUT\",\"page\":0,\"phase\":2,\"bytes\":\"00d3\",\"pec\":false,\"value\":\"12\",\"number\":12,\"unit\":\"A\"}\n"),
-    ("read 58 8c : 00 d3", "read 58 04 : ff", "{\"at\":3,\"line\":4,\"column\":5,\"kind\":\"read\",\"device\":\"58\",\"code\":\"8c\",\"command\":\"READ_IOUT\",\"page\":0,\"phase\":\"all\",\"bytes\":\"00d3\",\"pec\":false,\"value\":\"12\",\"number\":12,\"unit\":\"A\"}\n"),
+    ("read 58 8c : 00 d3", "write 58 04 02", "{\"at\":3,\"line\":4,\"column\":5,\"kind\":\"read\",\"device\":\"58\",\"code\":\"8c\",\"command\":\"READ_IOUT\",\"page\":0,\"page_mode\":\"assumed\",\"phase\":2,\"bytes\":\"00d3\",\"pec\":false,\"value\":\"12\",\"number\":12,\"unit\":\"A\"}\n"),
+    ("read 58 8c : 00 d3", "read 58 04 : ff", "{\"at\":3,\"line\":4,\"column\":5,\"kind\":\"read\",\"device\":\"58\",\"code\":\"8c\",\"command\":\"READ_IOUT\",\"page\":0,\"page_mode\":\"assumed\",\"phase\":\"all\",\"bytes\":\"00d3\",\"pec\":false,\"value\":\"12\",\"number\":12,\"unit\":\"A\"}\n"),
     ("read 58 8c : 00 d3", "write 58 00 01", "{\"at\":3,\"line\":4,\"column\":5,\"kind\":\"read\",\"device\":\"58\",\"code\":\"8c\",\"command\":\"READ_IOUT\",\"page\":1,\"phase\":null,\"bytes\":\"00d3\",\"pec\":false,\"value\":\"12\",\"number\":12,\"unit\":\"A\"}\n"),
-    ("write 58 04 01", "write 58 04 02", "{\"at\":3,\"line\":4,\"column\":5,\"kind\":\"write\",\"device\":\"58\",\"code\":\"04\",\"command\":\"PHASE\",\"page\":0,\"bytes\":\"01\",\"pec\":false}\n"),
+    ("write 58 04 01", "write 58 04 02", "{\"at\":3,\"line\":4,\"column\":5,\"kind\":\"write\",\"device\":\"58\",\"code\":\"04\",\"command\":\"PHASE\",\"page\":0,\"page_mode\":\"assumed\",\"bytes\":\"01\",\"pec\":false}\n"),
     ("write 58 d2 07", "write 58 04 00", "{\"at\":3,\"line\":4,\"column\":5,\"kind\":\"write\",\"device\":\"58\",\"code\":\"d2\",\"command\":\"CMD_d2\",\"phase\":0,\"bytes\":\"07\",\"pec\":false}\n"),
-    ("refused 58 8c read", "write 58 04 fe", "{\"at\":3,\"line\":4,\"column\":5,\"kind\":\"refused\",\"device\":\"58\",\"refused\":\"read address\",\"code\":\"8c\",\"command\":\"READ_IOUT\",\"page\":0,\"phase\":254,\"sent\":\"8c\"}\n"),
+    ("refused 58 8c read", "write 58 04 fe", "{\"at\":3,\"line\":4,\"column\":5,\"kind\":\"refused\",\"device\":\"58\",\"refused\":\"read address\",\"code\":\"8c\",\"command\":\"READ_IOUT\",\"page\":0,\"page_mode\":\"assumed\",\"phase\":254,\"sent\":\"8c\"}\n"),
     ("read 59 8c : 00 d3", "write 59 04 02", "{\"at\":3,\"line\":4,\"column\":5,\"kind\":\"read\",\"device\":\"59\",\"code\":\"8c\",\"command\":\"READ_IOUT\",\"page\":0,\"bytes\":\"00d3\",\"pec\":false,\"value\":\"12\",\"number\":12,\"unit\":\"A\"}\n"),
     // names of bits, and texts
-    ("read 58 7a : c0", "write 58 03", "{\"at\":3,\"line\":4,\"column\":5,\"kind\":\"read\",\"device\":\"58\",\"code\":\"7a\",\"command\":\"STATUS_VOUT\",\"page\":0,\"bytes\":\"c0\",\"pec\":false,\"bits\":[\"VOUT_OV_FAULT\",\"RAIL_HIGH\"]}\n"),
+    ("read 58 7a : c0", "write 58 03", "{\"at\":3,\"line\":4,\"column\":5,\"kind\":\"read\",\"device\":\"58\",\"code\":\"7a\",\"command\":\"STATUS_VOUT\",\"page\":0,\"page_mode\":\"assumed\",\"bytes\":\"c0\",\"pec\":false,\"bits\":[\"VOUT_OV_FAULT\",\"RAIL_HIGH\"]}\n"),
     ("read 58 99 : 41 22 43", "write 58 03", "{\"at\":3,\"line\":4,\"column\":5,\"kind\":\"read\",\"device\":\"58\",\"code\":\"99\",\"command\":\"MFR_ID\",\"bytes\":\"412243\",\"pec\":false,\"text\":\"A\\u0022C\"}\n"),
     ("read 58 99 : 41 1f", "write 58 03", "{\"at\":3,\"line\":4,\"column\":5,\"kind\":\"read\",\"device\":\"58\",\"code\":\"99\",\"command\":\"MFR_ID\",\"bytes\":\"411f\",\"pec\":false}\n"),
     ("write 58 d0 41 42", "write 58 03", "{\"at\":3,\"line\":4,\"column\":5,\"kind\":\"write\",\"device\":\"58\",\"code\":\"d0\",\"command\":\"CMD_d0\",\"bytes\":\"4142\",\"pec\":false,\"text\":\"AB\"}\n"),
     // what fields say
-    ("write 58 01 80", "write 58 03", "{\"at\":3,\"line\":4,\"column\":5,\"kind\":\"write\",\"device\":\"58\",\"code\":\"01\",\"command\":\"OPERATION\",\"page\":0,\"bytes\":\"80\",\"pec\":false,\"says\":{\"output\":\"on\",\"turn_off\":\"immediate\",\"voltage_source\":\"VOUT_COMMAND\",\"transition\":\"keep\"}}\n"),
-    ("read 58 20 : 14", "write 58 03", "{\"at\":3,\"line\":4,\"column\":5,\"kind\":\"read\",\"device\":\"58\",\"code\":\"20\",\"command\":\"VOUT_MODE\",\"page\":0,\"bytes\":\"14\",\"pec\":false,\"says\":{\"relative\":false,\"mode\":\"linear\",\"exponent\":-12}}\n"),
+    ("write 58 01 80", "write 58 03", "{\"at\":3,\"line\":4,\"column\":5,\"kind\":\"write\",\"device\":\"58\",\"code\":\"01\",\"command\":\"OPERATION\",\"page\":0,\"page_mode\":\"assumed\",\"bytes\":\"80\",\"pec\":false,\"says\":{\"output\":\"on\",\"turn_off\":\"immediate\",\"voltage_source\":\"VOUT_COMMAND\",\"transition\":\"keep\"}}\n"),
+    ("read 58 20 : 14", "write 58 03", "{\"at\":3,\"line\":4,\"column\":5,\"kind\":\"read\",\"device\":\"58\",\"code\":\"20\",\"command\":\"VOUT_MODE\",\"page\":0,\"page_mode\":\"assumed\",\"bytes\":\"14\",\"pec\":false,\"says\":{\"relative\":false,\"mode\":\"linear\",\"exponent\":-12}}\n"),
     ("call 58 1b 7a : 50", "write 58 03", "{\"at\":3,\"line\":4,\"column\":5,\"kind\":\"call\",\"device\":\"58\",\"code\":\"1b\",\"command\":\"SMBALERT_MASK\",\"sent\":\"7a\",\"reply\":\"50\",\"pec\":false,\"says\":{\"register\":\"7a\",\"mask\":[\"RAIL_HIGH\",\"VOUT_UV_FAULT\"]}}\n"),
 ];
 

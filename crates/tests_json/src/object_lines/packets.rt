@@ -25,13 +25,13 @@ pub(crate) fn rows() -> &'static [Row] {
 
 #[rattlefmt::skip]
 static ROWS: [Row; 9] = [
-    ("write 58 21 00 18 pec", 0, Place {line: 1, column: 1}, "{\"at\":0,\"line\":1,\"column\":1,\"kind\":\"write\",\"device\":\"58\",\"code\":\"21\",\"command\":\"VOUT_COMMAND\",\"page\":0,\"bytes\":\"0018\",\"pec\":true,\"value\":\"12\",\"number\":12,\"mode\":\"assumed\",\"unit\":\"V\"}\n"),
-    ("read 58 79 : 40 88", 12, Place {line: 2, column: 1}, "{\"at\":12,\"line\":2,\"column\":1,\"kind\":\"read\",\"device\":\"58\",\"code\":\"79\",\"command\":\"STATUS_WORD\",\"page\":0,\"bytes\":\"4088\",\"pec\":false,\"bits\":[\"VOUT\",\"POWER_GOOD_N\",\"OFF\"]}\n"),
+    ("write 58 21 00 18 pec", 0, Place {line: 1, column: 1}, "{\"at\":0,\"line\":1,\"column\":1,\"kind\":\"write\",\"device\":\"58\",\"code\":\"21\",\"command\":\"VOUT_COMMAND\",\"page\":0,\"page_mode\":\"assumed\",\"bytes\":\"0018\",\"pec\":true,\"value\":\"12\",\"number\":12,\"mode\":\"assumed\",\"unit\":\"V\"}\n"),
+    ("read 58 79 : 40 88", 12, Place {line: 2, column: 1}, "{\"at\":12,\"line\":2,\"column\":1,\"kind\":\"read\",\"device\":\"58\",\"code\":\"79\",\"command\":\"STATUS_WORD\",\"page\":0,\"page_mode\":\"assumed\",\"bytes\":\"4088\",\"pec\":false,\"bits\":[\"VOUT\",\"POWER_GOOD_N\",\"OFF\"]}\n"),
     ("write 58 03 + 59 03", 30, Place {line: 3, column: 13}, "{\"at\":30,\"line\":3,\"column\":13,\"kind\":\"write\",\"part\":2,\"parts\":2,\"device\":\"59\",\"code\":\"03\",\"command\":\"CLEAR_FAULTS\",\"bytes\":\"\",\"pec\":false}\n"),
     ("call 58 1b 7a : 10", 7, Place {line: 4, column: 2}, "{\"at\":7,\"line\":4,\"column\":2,\"kind\":\"call\",\"device\":\"58\",\"code\":\"1b\",\"command\":\"SMBALERT_MASK\",\"sent\":\"7a\",\"reply\":\"10\",\"pec\":false,\"says\":{\"register\":\"7a\",\"mask\":[\"VOUT_UV_FAULT\"]}}\n"),
     ("refused 58 03 47", 36, Place {line: 4, column: 1}, "{\"at\":36,\"line\":4,\"column\":1,\"kind\":\"refused\",\"device\":\"58\",\"refused\":\"byte\",\"code\":\"03\",\"command\":\"CLEAR_FAULTS\",\"sent\":\"0347\",\"pec\":\"wrong\",\"right_pec\":\"46\"}\n"),
     ("refused 59 03 + 20", 36, Place {line: 4, column: 1}, "{\"at\":36,\"line\":4,\"column\":1,\"kind\":\"refused\",\"part\":2,\"parts\":2,\"device\":\"20\",\"refused\":\"address\",\"sent\":\"\"}\n"),
-    ("refused 58 88 read", 36, Place {line: 4, column: 1}, "{\"at\":36,\"line\":4,\"column\":1,\"kind\":\"refused\",\"device\":\"58\",\"refused\":\"read address\",\"code\":\"88\",\"command\":\"READ_VIN\",\"page\":0,\"sent\":\"88\"}\n"),
+    ("refused 58 88 read", 36, Place {line: 4, column: 1}, "{\"at\":36,\"line\":4,\"column\":1,\"kind\":\"refused\",\"device\":\"58\",\"refused\":\"read address\",\"code\":\"88\",\"command\":\"READ_VIN\",\"page\":0,\"page_mode\":\"assumed\",\"sent\":\"88\"}\n"),
     ("alert b0", 44, Place {line: 5, column: 1}, "{\"at\":44,\"line\":5,\"column\":1,\"kind\":\"alert\",\"device\":\"58\",\"byte\":\"b0\",\"pec\":false}\n"),
     ("alert none", 44, Place {line: 5, column: 1}, "{\"at\":44,\"line\":5,\"column\":1,\"kind\":\"alert\",\"device\":null}\n"),
 ];
@@ -51,7 +51,7 @@ fn timed_rows() -> &'static [TimedRow] {
 
 #[rattlefmt::skip]
 static TIMED_ROWS: [TimedRow; 12] = [
-    ("write 58 21 00 18 pec", Some("0.25"), "write 58 03", "{\"at\":3,\"line\":4,\"column\":5,\"time\":\"0.25\",\"kind\":\"write\",\"device\":\"58\",\"name\":\"VDD_CORE\",\"code\":\"21\",\"command\":\"VOUT_COMMAND\",\"page\":0,\"bytes\":\"0018\",\"pec\":true,\"value\":\"12\",\"number\":12,\"mode\":\"assumed\",\"unit\":\"V\"}\n"),
+    ("write 58 21 00 18 pec", Some("0.25"), "write 58 03", "{\"at\":3,\"line\":4,\"column\":5,\"time\":\"0.25\",\"kind\":\"write\",\"device\":\"58\",\"name\":\"VDD_CORE\",\"code\":\"21\",\"command\":\"VOUT_COMMAND\",\"page\":0,\"page_mode\":\"assumed\",\"bytes\":\"0018\",\"pec\":true,\"value\":\"12\",\"number\":12,\"mode\":\"assumed\",\"unit\":\"V\"}\n"),
     ("write 58 21 00 18", None, "write 58 00 01", "{\"at\":3,\"line\":4,\"column\":5,\"kind\":\"write\",\"device\":\"58\",\"name\":\"VDD_CORE\",\"code\":\"21\",\"command\":\"VOUT_COMMAND\",\"page\":1,\"bytes\":\"0018\",\"pec\":false,\"value\":\"1.5\",\"number\":1.5,\"mode\":\"assumed\",\"unit\":\"V\"}\n"),
     ("read 59 8b : 00 18", Some("1"), "write 59 20 14", "{\"at\":3,\"line\":4,\"column\":5,\"time\":\"1\",\"kind\":\"read\",\"device\":\"59\",\"name\":\"\\u00223V3\\u0022 \\u005c ~\",\"code\":\"8b\",\"command\":\"READ_VOUT\",\"page\":0,\"bytes\":\"0018\",\"pec\":false,\"value\":\"1.5\",\"number\":1.5,\"unit\":\"V\"}\n"),
     ("read 59 8b : 00 18", Some("1"), "write 59 12", "{\"at\":3,\"line\":4,\"column\":5,\"time\":\"1\",\"kind\":\"read\",\"device\":\"59\",\"name\":\"\\u00223V3\\u0022 \\u005c ~\",\"code\":\"8b\",\"command\":\"READ_VOUT\",\"page\":0,\"bytes\":\"0018\",\"pec\":false,\"value\":\"12\",\"number\":12,\"mode\":\"assumed\",\"unit\":\"V\"}\n"),

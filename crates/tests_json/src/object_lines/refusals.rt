@@ -24,7 +24,7 @@ pub(crate) fn rows() -> &'static [Row] {
 static ROWS: [Row; 5] = [
     // S b0 A 88 A S b1 A 00 A d3 A f7: the error code of a reply
     (&[Event::Start, Event::Byte(0xb0), Event::Ack, Event::Byte(0x88), Event::Ack, Event::Start, Event::Byte(0xb1), Event::Ack, Event::Byte(0x00), Event::Ack, Event::Byte(0xd3), Event::Ack], Some(Event::Byte(0xf7)), Reason::BadPec, Kinds::BYTE,
-        "{\"at\":62,\"line\":6,\"column\":30,\"kind\":\"refusal\",\"reason\":\"BadPec\",\"expected\":[\"Byte\"],\"got\":\"f7\",\"device\":\"58\",\"code\":\"88\",\"command\":\"READ_VIN\",\"page\":0,\"sent\":\"88\",\"reply\":\"00d3\",\"right_pec\":\"f6\"}\n"),
+        "{\"at\":62,\"line\":6,\"column\":30,\"kind\":\"refusal\",\"reason\":\"BadPec\",\"expected\":[\"Byte\"],\"got\":\"f7\",\"device\":\"58\",\"code\":\"88\",\"command\":\"READ_VIN\",\"page\":0,\"page_mode\":\"assumed\",\"sent\":\"88\",\"reply\":\"00d3\",\"right_pec\":\"f6\"}\n"),
     // S: nothing was said
     (&[Event::Start], Some(Event::Stop), Reason::WrongEvent, Kinds::BYTE, "{\"at\":62,\"line\":6,\"column\":30,\"kind\":\"refusal\",\"reason\":\"WrongEvent\",\"expected\":[\"Byte\"],\"got\":\"Stop\"}\n"),
     // S 19 A: the device that alerts has not told its address

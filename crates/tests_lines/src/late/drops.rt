@@ -48,7 +48,7 @@ paged = false
 
 /// Lines under the profile.
 #[rattlefmt::skip]
-static ROWS: [Row; 32] = [
+static ROWS: [Row; 36] = [
     // One page: late nothing is known, and else VOUT_MODE goes on, and is assumed.
     (Late, "write 59 20 14\n-", 0x59, (None, Unknown, true, None)),
     (LateFixedMode, "write 59 20 14\n-", 0x59, (None, Known(0x14), true, None)),
@@ -75,10 +75,14 @@ static ROWS: [Row; 32] = [
     // .. with one VOUT_MODE for both.
     (Late, "write 5a 20 13\n-", 0x5a, (None, Unknown, true, None)),
     (Late, "-\nwrite 5a 20 13", 0x5a, (None, Known(0x13), false, None)),
-    // A page that the device lacks: late it is one of its pages again, or ffh.
+    // A page that the device lacks: it is one of its pages again, or ffh, with any start.
     (Late, "write 59 00 05\n-", 0x59, (None, Unknown, true, None)),
     (Late, "write 59 00 05\n-\nwrite 59 20 14", 0x59, (None, Known(0x14), false, None)),
-    (AllKnown, "write 59 00 05\n-\nwrite 59 20 14", 0x59, (Some(5), NoPage, false, None)),
+    (AllKnown, "write 59 00 05\n-", 0x59, (None, Known(0x13), true, None)),
+    (AllKnown, "write 59 00 05\n-\nwrite 59 20 14", 0x59, (None, Known(0x14), false, None)),
+    (AllKnown, "write 58 00 02\n-", 0x58, (None, Known(0x17), true, None)),
+    (AllKnown, "write 58 00 02\n-\nwrite 58 20 14", 0x58, (None, Unknown, true, None)),
+    (AllKnown, "write 58 00 ff\n-", 0x58, (Some(0xff), Known(0x17), true, None)),
     // Where there is no device.
     (Late, "write 59 20 14\n-", 0x20, (None, NoPage, false, None)),
     // PHASE is not known, with any start, until it is told again.

@@ -4,8 +4,8 @@ use Rattle.pmb_unknown_start.proofs.LastPhase.{phase_at}
 use Rattle.pmb_unknown_start.proofs.laws.pieces_say_what_the_whole_says.Goals as goal
 
 pub returns-clause-mode : goal.returns-clause-mode
-returns-clause-mode c profile start before piece addr bus so drops = mode_at profile start before piece addr
-    (λ device found. (device_is profile addr device bus found).0) so drops
+returns-clause-mode c profile start before piece addr bus so = mode_at profile start before piece addr
+    (λ device found. (device_is profile addr device bus found).0) so
 
 pub returns-clause-page : goal.returns-clause-page
 returns-clause-page c profile start before piece addr number late is =

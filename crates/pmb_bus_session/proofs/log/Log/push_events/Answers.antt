@@ -25,12 +25,13 @@ loop-event-preserved c =
           ∙ (ap (λ (front : List ℕ). front ++ text_of event) c.loop-event.invariant.left
           ∙ (append_assoc c.args.self.now.left (canonical_text (take i events)) (text_of event)
           ∙ ap (λ (last : List ℕ). c.args.self.now.left ++ last) text));
+      taken = c.push_event.ensures.taken ∙ c.loop-event.invariant.taken;
       room = omega (arith, c.push_event.ensures.room, c.loop-event.invariant.room);
     }
 
 -- They are all of them.
-pub returns : goal.returns
-returns c =
+pub returns-clause-left : goal.returns-clause-left
+returns-clause-left c =
     c.loop-event.invariant.left
     ∙ ap (λ (es : List Event). c.args.self.now.left ++ canonical_text es)
     (take_all c.loop-event.event-index c.args.events.now c.loop-event-test.false)

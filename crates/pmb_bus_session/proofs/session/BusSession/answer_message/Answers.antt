@@ -1,4 +1,4 @@
-use Rattle.std.proofs.Common.{◌∙◌, ◌≤◌, ◌++◌, ℕ, not, Option, Result, Ok, Err, IsOk, OnOk, List, Box, ap, arith, option_map, refl, subst, sym, true≢false}
+use Rattle.std.proofs.Common.{◌∙◌, ◌≤◌, ◌++◌, ℕ, not, Option, Result, Ok, Err, IsOk, OnOk, List, Box, ap, arith, option_map, refl, subst, sym, true≢false, inr, length, length-append}
 use Rattle.std.specs.declared.alloc.Global.{Global}
 use Rattle.pmb_bus.specs.Event.{canonical_text}
 use Rattle.pmb_bus.specs.declared.event.Event.{Event}
@@ -22,15 +22,15 @@ push_events-requires c =
     omega (arith, c.events.ensures.few, room)
 
 -- There was no memory, and all stays.
-pub returns-then-is_err : goal.returns-then-is_err
-returns-then-is_err c =
+pub returns-then-is_err-clause-sends : goal.returns-then-is_err-clause-sends
+returns-then-is_err-clause-sends c =
     SendsMessage.no_memory c.in-Some.devices.value (ap values c.in-Some.is)
     (record { profile = refl; devices = sym (ap values c.in-Some.is); text = c.reserve.ensures.left }) refl
     c.plain-then-is_err.ensures
 
 -- It was sent, and its text comes after what was there.
-pub returns : goal.returns
-returns c =
+pub returns-clause-sends : goal.returns-clause-sends
+returns-clause-sends c =
     let was = c.in-Some.devices.value in
     let sent = c.send-sent in
     let message = c.args.message in
@@ -39,8 +39,24 @@ returns c =
     (subst (λ (d : Devices). DevicesSend message c.args.room.now sent.new.room d sent.new.self sent.result)
     c.deref_mut-devices.ensures.value sent.ensures)
     refl
-    (c.push_events.ensures
+    (c.push_events.ensures.left
     ∙ (ap (λ (front : List ℕ). front ++ canonical_text c.events.result.now) c.reserve.ensures.left
     ∙ ap (λ (events : List Event). c.args.self.now.log.left ++ canonical_text events)
     c.events.ensures.all))
     c.answer_of.ensures
+
+-- ---- text that was taken
+
+pub returns-then-is_err-clause-few : goal.returns-then-is_err-clause-few
+returns-then-is_err-clause-few c = inr (omega (arith, c.reserve.ensures.few))
+
+pub returns-clause-few : goal.returns-clause-few
+returns-clause-few c =
+    let text = canonical_text c.events.result.now in
+    inr (omega (
+      arith,
+      c.reserve.ensures.few,
+      c.push_events.ensures.taken,
+      ap (λ (l : List ℕ). length l) c.push_events.ensures.left,
+      length-append c.reserve.new.self.left text,
+    ))

@@ -1,11 +1,9 @@
 use Rattle.std.proofs.Common.{◌≡◌, ◌∙◌, ◌≤◌, ◌++◌, ℕ, [], List, Option, Result, Ok, Err, IsOk, OnOk, option_map, Box, not, false, refl, sym, ap, subst, arith}
-use Rattle.std.proofs.Common.{◌⊎◌, true≢false}
+use Rattle.std.proofs.Common.{inr, length, length-append, true≢false}
 use Rattle.std.specs.declared.alloc.Global.{Global}
 use Rattle.pmb_io.specs.declared.tally.Tally.{Tally}
-use Rattle.pmb_reader.specs.Reader.{IsBetween, ReaderStandsAt, Standing}
-use Rattle.pmb_run.specs.machine.Bench.{bench_profile}
 use Rattle.pmb_bus_session.specs.Devices.{request_text}
-use Rattle.pmb_bus_session.specs.Session.{IsUnderWay, Requests, RunsLine, done_with}
+use Rattle.pmb_bus_session.specs.Session.{IsBusy, IsFree, Requests, RunsLine, done_with}
 use Rattle.pmb_bus_session.specs.declared.devices.Devices.{Devices}
 use Rattle.pmb_bus_session.specs.declared.work.BusAnswer.{BusAnswer}
 use Rattle.pmb_bus_session.proofs.session.BusSession.answer_request.Goals as goal
@@ -42,48 +40,65 @@ push_text-requires c =
     omega (arith, c.text.ensures.few, room)
 
 -- A transfer is under way, and all stays.
-pub returns-then-is_busy : goal.returns-then-is_busy
-returns-then-is_busy c =
+pub returns-then-is_busy-clause-runs : goal.returns-then-is_busy-clause-runs
+returns-then-is_busy-clause-runs c =
     Requests.busy c.in-Some.devices.value (ap values c.in-Some.is)
-    (subst (λ (d : Devices). IsUnderWay d ⊎ ((standing : Standing)
-    → ReaderStandsAt (bench_profile d.runner.bench) d.runner.bench.reader standing → ¬ (IsBetween standing)))
-    c.deref.ensures (c.is_busy.ensures.busy c.if-is_busy.true))
+    (subst (λ (d : Devices). IsBusy d) c.deref.ensures (c.is_busy.ensures.busy c.if-is_busy.true))
     (record { profile = refl; devices = sym (ap values c.in-Some.is); text = refl })
     c.plain-then-is_busy.ensures
 
 -- There was no memory, and all stays.
-pub returns-then-is_err : goal.returns-then-is_err
-returns-then-is_err c =
+pub returns-then-is_err-clause-runs : goal.returns-then-is_err-clause-runs
+returns-then-is_err-clause-runs c =
     Requests.no_memory c.in-Some.devices.value (ap values c.in-Some.is)
-    (subst (λ (d : Devices). d.is_under_way ≡ false) c.deref.ensures (c.is_busy.ensures.free c.if-is_busy.false))
+    (subst (λ (d : Devices). IsFree d) c.deref.ensures (c.is_busy.ensures.free c.if-is_busy.false))
     (record { profile = refl; devices = sym (ap values c.in-Some.is); text = c.reserve.ensures.left })
     c.plain-then-is_err.ensures
 
 -- The request was run.
-pub returns-in-Ok : goal.returns-in-Ok
-returns-in-Ok c =
+pub returns-in-Ok-clause-runs : goal.returns-in-Ok-clause-runs
+returns-in-Ok-clause-runs c =
     let line = c.args.line.now in
     let was = c.in-Some.devices.value in
     let now = c.request.new.self in
-    let free : was.is_under_way ≡ false =
-    subst (λ (d : Devices). d.is_under_way ≡ false) c.deref.ensures (c.is_busy.ensures.free c.if-is_busy.false) in
+    let free : IsFree was =
+    subst (λ (d : Devices). IsFree d) c.deref.ensures (c.is_busy.ensures.free c.if-is_busy.false) in
     let runs = subst (λ (d : Devices). RunsLine line d now [] (request_text now) c.in-Ok.tally)
     c.deref_mut-devices.ensures.value c.in-Ok.ensures.runs in
     let tally_is : c.done_with.result.tally ≡ c.in-Ok.tally = ap (λ (a : BusAnswer). a.tally) c.done_with.ensures in
     Requests.run was now (ap values c.in-Some.is) refl free
-    (c.request.ensures.under_way ∙ ap (λ (d : Devices). d.is_under_way) c.deref_mut-devices.ensures.value ∙ free) refl
+    (c.request.ensures.under_way ∙ ap (λ (d : Devices). d.is_under_way) c.deref_mut-devices.ensures.value ∙ free.ended) refl
     (subst (λ (tally : Tally). RunsLine line was now c.args.self.now.log.left c.push_text.new.self.left tally)
     (sym tally_is)
     (subst (λ (log : List ℕ). RunsLine line was now c.args.self.now.log.left log c.in-Ok.tally)
-    (sym (c.push_text.ensures
+    (sym (c.push_text.ensures.left
     ∙ (ap (λ (front : List ℕ). front ++ c.text.result.now) c.reserve.ensures.left
     ∙ ap (λ (text : List ℕ). c.args.self.now.log.left ++ text) c.text.ensures.all)))
     (after_text line was now c.args.self.now.log.left (request_text now) c.in-Ok.tally runs)))
     (c.done_with.ensures ∙ ap done_with (sym tally_is))
 
 -- Its text is longer than there is room for, and the devices are gone.
-pub returns-in-Err : goal.returns-in-Err
-returns-in-Err c =
+pub returns-in-Err-clause-runs : goal.returns-in-Err-clause-runs
+returns-in-Err-clause-runs c =
     Requests.gone c.in-Some.devices.value (ap values c.in-Some.is)
-    (subst (λ (d : Devices). d.is_under_way ≡ false) c.deref.ensures (c.is_busy.ensures.free c.if-is_busy.false))
+    (subst (λ (d : Devices). IsFree d) c.deref.ensures (c.is_busy.ensures.free c.if-is_busy.false))
     refl refl c.reserve.ensures.left c.plain-in-Err.ensures
+
+-- ---- text that was taken
+
+pub returns-then-is_err-clause-few : goal.returns-then-is_err-clause-few
+returns-then-is_err-clause-few c = inr (omega (arith, c.reserve.ensures.few))
+
+pub returns-in-Ok-clause-few : goal.returns-in-Ok-clause-few
+returns-in-Ok-clause-few c =
+    let text = c.text.result.now in
+    inr (omega (
+      arith,
+      c.reserve.ensures.few,
+      c.push_text.ensures.taken,
+      ap (λ (l : List ℕ). length l) c.push_text.ensures.left,
+      length-append c.reserve.new.self.left text,
+    ))
+
+pub returns-in-Err-clause-few : goal.returns-in-Err-clause-few
+returns-in-Err-clause-few c = inr (omega (arith, c.reserve.ensures.few))

@@ -6,7 +6,7 @@ use Rattle.pmb_capture_reader.proofs.reader.CaptureReader.end_more.Goals as goal
 
 pub returns-clause-ends : goal.returns-clause-ends
 returns-clause-ends c = gathers_no_more c.tell_end-made.result c.gather-self.result (reader_ready c.args.self.now)
-    c.gather-self.new.queue (fresh_bytes c.tell_end-made.new.fresh) c.gather-self.ensures c.tell_end-made.ensures.never
+    c.gather-self.new.queue.left (fresh_bytes c.tell_end-made.new.fresh) c.gather-self.ensures.gathers c.tell_end-made.ensures.never
 
 pub returns-clause-stands : goal.returns-clause-stands
 returns-clause-stands c choice profile after given taken stands =
@@ -14,10 +14,10 @@ returns-clause-stands c choice profile after given taken stands =
     let ready = reader_ready old in
     let never = c.tell_end-made.ensures.never in record {
       tells = end_tells choice profile after c.tell_end-made.new.teller taken ready
-          (fresh_bytes c.tell_end-made.new.fresh) c.gather-self.new.queue given c.tell_end-made.result c.gather-self.result
-          c.gather-self.ensures never
+          (fresh_bytes c.tell_end-made.new.fresh) c.gather-self.new.queue.left given c.tell_end-made.result c.gather-self.result
+          c.gather-self.ensures.gathers never
           (c.tell_end-made.ensures.told choice profile after given (taken ++ ready) (stands.teller c.requires))
           (told_before choice profile after given taken old c.requires stands);
       teller = λ more. absurd (gathers_no_more c.tell_end-made.result c.gather-self.result ready
-          c.gather-self.new.queue (fresh_bytes c.tell_end-made.new.fresh) c.gather-self.ensures never more);
+          c.gather-self.new.queue.left (fresh_bytes c.tell_end-made.new.fresh) c.gather-self.ensures.gathers never more);
     }

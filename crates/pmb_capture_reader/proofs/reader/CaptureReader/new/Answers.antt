@@ -11,8 +11,8 @@ returns-clause-stands c =
     let after = c.args.bad_words in
     let teller = c.in_ok-teller.teller in
     let stands = c.in_ok-teller.ensures in record {
-      tells = subst (λ (l : List ℕ). WritesToldFront choice profile after [] l) (sym c.new-queue.ensures)
+      tells = subst (λ (l : List ℕ). WritesToldFront choice profile after [] l) (sym c.new-queue.ensures.left)
           (c.tellers_have_told.ensures choice profile after teller [] [] stands);
       teller = λ more. subst (λ (l : List ℕ). TellerStands choice profile after teller [] l)
-          (sym c.new-queue.ensures) stands;
+          (sym c.new-queue.ensures.left) stands;
     }

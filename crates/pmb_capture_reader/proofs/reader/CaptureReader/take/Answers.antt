@@ -6,7 +6,7 @@ use Rattle.pmb_capture_reader.proofs.reader.CaptureReader.take.Goals as goal
 
 pub returns-clause-stands : goal.returns-clause-stands
 returns-clause-stands c choice profile after given taken stands =
-    let moved : reader_ready c.args.self.now ≡ take c.take.result c.take.new.room ++ c.take.new.self =
+    let moved : reader_ready c.args.self.now ≡ take c.take.result c.take.new.room ++ c.take.new.self.left =
     grind (arith, common_steps) in
     takes_some choice profile after given taken c.args.self.now (take c.take.result c.take.new.room) c.take.new.self
     moved stands

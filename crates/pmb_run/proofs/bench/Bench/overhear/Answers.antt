@@ -1,10 +1,13 @@
 use Rattle.std.proofs.Common.{◌≡◌, ◌∙◌, ◌∷◌, [], ◌+◌, List, ◌++◌, ap, append_assoc, append-nil, subst, sym, take}
 use Rattle.std.proofs.lemmas.List.{take_all, take_more}
+use Rattle.std.specs.Borrow.{Bor}
+use Rattle.pmb_command.specs.Parts.{DeviceParts}
 use Rattle.pmb_bus.specs.declared.event.Event.{Event}
 use Rattle.pmb_bus.specs.declared.event.Event.TheVariants.{Start}
 use Rattle.pmb_transaction.specs.Reading.{Outcome}
-use Rattle.pmb_run.specs.Heard.{ReadsAs}
+use Rattle.pmb_run.specs.Heard.{HearsMore, ReadsAs, told_by}
 use Rattle.pmb_run.proofs.Hearing.{event_at}
+use Rattle.pmb_run.proofs.Onward.{hears_both, hears_none}
 use Rattle.pmb_run.proofs.bench.Bench.overhear.Goals as goal
 
 -- Nothing was read yet.
@@ -17,6 +20,7 @@ loop-event-init c = record {
     subst (λ (events : List Event). ReadsAs c.args.self.now events (outcomes ++ [])) (sym (append-nil before))
         (subst (λ (os : List Outcome). ReadsAs c.args.self.now before os) (sym (append-nil outcomes)) reads),
   );
+  reads_on = λ place ts hears. hears_none c.args.self.now place ts hears;
 }
 
 -- One event more.
@@ -39,6 +43,13 @@ loop-event-preserved c =
                 (subst (λ (os : List Outcome). ReadsAs c.overhear_one.new.self
                 ((before ++ take i events) ++ event_at events i ∷ []) os) (append_assoc outcomes was.0 now.0) now.1),
           );
+      reads_on = λ place ts hears.
+          let was = c.loop-event.invariant.reads_on place ts hears in
+          let now = c.overhear_one.ensures.reads_on was.place (ts ++ told_by was.outcomes) was.hears in
+          subst (λ (es : List Event). HearsMore c.overhear_one.new.self place ts es) (sym more)
+          (hears_both c.loop-event.self c.overhear_one.new.self
+          (ap (λ (p : Bor (List DeviceParts)). p.now) c.overhear_one.ensures.profile) place ts (take i events)
+          (event_at events i ∷ []) was now);
     }
 
 -- They are all of them.
@@ -49,3 +60,9 @@ returns-clause-reads c = λ before outcomes reads.
       subst (λ (es : List Event). ReadsAs c.loop-event.self (before ++ es) (outcomes ++ was.0))
           (take_all c.loop-event.event-index c.args.events.now c.loop-event-test.false) was.1,
     )
+
+pub returns-clause-reads_on : goal.returns-clause-reads_on
+returns-clause-reads_on c = λ place ts hears.
+    subst (λ (es : List Event). HearsMore c.loop-event.self place ts es)
+    (take_all c.loop-event.event-index c.args.events.now c.loop-event-test.false)
+    (c.loop-event.invariant.reads_on place ts hears)

@@ -1,4 +1,5 @@
 use Rattle.std.proofs.Common.{[], ◌∷◌, ◌++◌, List, append-nil, refl, sym, subst}
+use Rattle.pmb_note.specs.Context.{HasSeen}
 use Rattle.pmb_transaction.specs.Reading.{Accepted, Outcome, Refusal}
 use Rattle.pmb_reader.specs.Reader.{last_read}
 use Rattle.pmb_reader.specs.Reading.{AnyEvent, HeldEvent}
@@ -6,6 +7,8 @@ use Rattle.pmb_reader.specs.Refusal.{refusal_data}
 use Rattle.pmb_run.specs.Heard.{ReadsAs, told_by}
 use Rattle.pmb_run.specs.machine.Bench.{bench_profile}
 use Rattle.pmb_run.specs.declared.bench.Bench.{Bench}
+use Rattle.pmb_transaction.specs.Transaction.{TransactionData}
+use Rattle.pmb_run.proofs.Onward.{continues_on, packet_on, refused_on}
 use Rattle.pmb_run.proofs.Overheard.{passed_over, seen_no_more, seen_one_more}
 use Rattle.pmb_run.proofs.bench.Bench.overhear_one.Goals as goal
 
@@ -56,3 +59,64 @@ returns-in-Refused-clause-reads c = λ before outcomes reads.
         seen = seen_no_more bench.context profile outcomes refused reads.seen;
       },
     )
+
+-- ---- wherever the reader stood
+
+pub returns-in-Continues-clause-reads_on : goal.returns-in-Continues-clause-reads_on
+returns-in-Continues-clause-reads_on c = λ place ts hears.
+    let bench = c.args.self.now in
+    let profile = bench_profile bench in
+    let on = continues_on profile c.passing_goes_on.ensures.other c.passing_goes_on.ensures.stop
+    c.take.new.self c.args.event place hears.free
+    (c.in-Continues.ensures profile place hears.reader) in
+    record {
+      outcomes = [];
+      place = on.0;
+      hears = record {
+        reader = on.1;
+        free = on.2.free;
+        context = subst (λ (seen : List TransactionData). HasSeen bench.context profile seen) (sym (append-nil ts))
+            hears.context;
+      };
+      reads = on.2.reads;
+    }
+
+pub returns-in-Packet-clause-reads_on : goal.returns-in-Packet-clause-reads_on
+returns-in-Packet-clause-reads_on c = λ place ts hears.
+    let profile = bench_profile c.args.self.now in
+    let t = last_read c.take.new.self in
+    let on = packet_on profile c.passing_goes_on.ensures.other c.passing_goes_on.ensures.stop
+    c.take.new.self c.args.event place hears.free
+    (c.in-Packet.ensures profile place hears.reader) in
+    record {
+      outcomes = Accepted t ∷ [];
+      place = on.0;
+      hears = record {
+        reader = on.1;
+        free = on.2.free;
+        context = subst (λ (u : TransactionData). HasSeen c.observe.new.self profile (ts ++ u ∷ [])) c.packet.ensures
+            (c.observe.ensures profile ts hears.context);
+      };
+      reads = on.2.reads;
+    }
+
+pub returns-in-Refused-clause-reads_on : goal.returns-in-Refused-clause-reads_on
+returns-in-Refused-clause-reads_on c = λ place ts hears.
+    let bench = c.args.self.now in
+    let profile = bench_profile bench in
+    let on = refused_on profile c.passing_goes_on.ensures.other c.passing_goes_on.ensures.stop
+    c.take.new.self c.resync.new.self
+    c.take-in-Refused.new.self c.args.event c.in-Refused.field-0 c.take-in-Refused.result place hears.free
+    (c.in-Refused.ensures profile place hears.reader) (c.resync.ensures.resumes profile)
+    (c.take-in-Refused.ensures profile) in
+    record {
+      outcomes = Refusal (refusal_data c.in-Refused.field-0) ∷ [];
+      place = on.0;
+      hears = record {
+        reader = on.1;
+        free = on.2.free;
+        context = subst (λ (seen : List TransactionData). HasSeen bench.context profile seen) (sym (append-nil ts))
+            hears.context;
+      };
+      reads = on.2.reads;
+    }
