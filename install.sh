@@ -1,7 +1,8 @@
 #!/bin/sh
-# Installs what stands in release/, and says what it puts where: the program pmb, the library for C
-# with its header, the manual's pages, and what pkg-config and CMake need to find the library. It
-# needs no make, no compiler and no toolchain. Where i2cd/build has made them, it also installs
+# Installs what stands in release/, and says what it puts where: the program pmb with the profiles of
+# real parts, and what bash, zsh and fish need to complete its words; the library for C with its header,
+# the manual's pages, and what pkg-config and CMake need to find the library. It needs no make, no
+# compiler and no toolchain. Where i2cd/build has made them, it also installs
 # pmb-i2cd and libpmb-i2cdev.so, the simulated bus as /dev/i2c-N (docs/i2cd.md).
 #
 #   ./install.sh                  into /usr/local
@@ -15,7 +16,8 @@
 #   BINDIR        PREFIX/bin
 #   LIBDIR        PREFIX/lib
 #   INCLUDEDIR    PREFIX/include
-#   MANDIR        PREFIX/share/man
+#   DATADIR       PREFIX/share
+#   MANDIR        DATADIR/man
 #   DESTDIR       nothing: a folder in front of all of these, for who makes a package
 #   PROCESSOR     that of this machine: x86_64 or aarch64
 #
@@ -51,6 +53,7 @@ parse() {
             BINDIR=*) BINDIR=${word#*=} ;;
             LIBDIR=*) LIBDIR=${word#*=} ;;
             INCLUDEDIR=*) INCLUDEDIR=${word#*=} ;;
+            DATADIR=*) DATADIR=${word#*=} ;;
             MANDIR=*) MANDIR=${word#*=} ;;
             DESTDIR=*) DESTDIR=${word#*=} ;;
             PROCESSOR=*) PROCESSOR=${word#*=} ;;
@@ -68,8 +71,9 @@ find_folders() {
     BINDIR=${BINDIR:-$PREFIX/bin}
     LIBDIR=${LIBDIR:-$PREFIX/lib}
     INCLUDEDIR=${INCLUDEDIR:-$PREFIX/include}
-    MANDIR=${MANDIR:-$PREFIX/share/man}
-    for folder in "$PREFIX/" "$BINDIR" "$LIBDIR" "$INCLUDEDIR" "$MANDIR"; do
+    DATADIR=${DATADIR:-$PREFIX/share}
+    MANDIR=${MANDIR:-$DATADIR/man}
+    for folder in "$PREFIX/" "$BINDIR" "$LIBDIR" "$INCLUDEDIR" "$DATADIR" "$MANDIR"; do
         case $folder in
             *"$newline"* | *[\"\'\`\\\$\#\;\|\@]*)
                 fail "pkg-config and CMake read a mark in this name as one of their own: ${folder%/}"
@@ -195,6 +199,10 @@ each_file() {
     for page in man/*.[13]; do
         "$1" 644 "$page" "$MANDIR/man${page##*.}/${page##*/}" || return
     done
+    for profile in examples/profiles/*.toml; do
+        "$1" 644 "$profile" "$DATADIR/pmb/profiles/${profile##*/}" || return
+    done
+    each_completion "$1" pmb || return
     for library in ${firmware:+release/libpmb_firmware-*.a}; do
         "$1" 644 "$library" "$LIBDIR/${library##*/}" || return
     done
@@ -202,8 +210,16 @@ each_file() {
     if [ "$1" = remove ] || { [ -e i2cd/out/pmb-i2cd ] && [ -e i2cd/out/libpmb-i2cdev.so ]; }; then
         "$1" 755 i2cd/out/pmb-i2cd "$BINDIR/pmb-i2cd" &&
             "$1" 755 i2cd/out/libpmb-i2cdev.so "$LIBDIR/libpmb-i2cdev.so" &&
-            "$1" 644 i2cd/pmb-i2cd.1 "$MANDIR/man1/pmb-i2cd.1"
+            "$1" 644 i2cd/pmb-i2cd.1 "$MANDIR/man1/pmb-i2cd.1" &&
+            each_completion "$1" pmb-i2cd
     fi
+}
+
+# The same for what completes a program's words, where each shell looks for it.
+each_completion() {
+    "$1" 644 "completions/$2.bash" "$DATADIR/bash-completion/completions/$2" &&
+        "$1" 644 "completions/_$2" "$DATADIR/zsh/site-functions/_$2" &&
+        "$1" 644 "completions/$2.fish" "$DATADIR/fish/vendor_completions.d/$2.fish"
 }
 
 # Puts a file there. It is whole from the first moment, also where one of that name is in use.
@@ -262,7 +278,8 @@ remove_empty() {
 # Removes the folders that have nothing any more.
 remove_folders() {
     for own in "$LIBDIR/cmake/pmb" "$LIBDIR/pkgconfig" "$MANDIR/man1" "$MANDIR/man3" "$INCLUDEDIR" \
-        "$BINDIR"; do
+        "$BINDIR" "$DATADIR/pmb/profiles" "$DATADIR/bash-completion/completions" \
+        "$DATADIR/zsh/site-functions" "$DATADIR/fish/vendor_completions.d"; do
         remove_empty "$own"
     done
 }

@@ -398,19 +398,23 @@ def try_turns(bus, devices, write, steps, draw, power_cycle=None):
     model = Model(chosen)
     for number in range(steps):
         what, who = "step {}".format(number), draw.randrange(len(devices) + 1)
-        if power_cycle and draw.random() < 0.01:
-            power_cycle()
-            model = Model(chosen)
-        elif who < len(devices):
-            step_of_device(devices[who], model, draw, what)
-        else:
-            step_of_other(write, model, draw)
-        found = []
-        for page in range(3):
-            bus.write_byte_data(ADDRESS, PAGE, page)
-            mode = bus.read_byte_data(ADDRESS, VOUT_MODE)
-            found.append((mode, bus.read_word_data(ADDRESS, VOUT_COMMAND)))
-        bus.write_byte_data(ADDRESS, PAGE, model.page)
+        try:
+            if power_cycle and draw.random() < 0.01:
+                power_cycle()
+                model = Model(chosen)
+            elif who < len(devices):
+                step_of_device(devices[who], model, draw, what)
+            else:
+                step_of_other(write, model, draw)
+            found = []
+            for page in range(3):
+                bus.write_byte_data(ADDRESS, PAGE, page)
+                mode = bus.read_byte_data(ADDRESS, VOUT_MODE)
+                found.append((mode, bus.read_word_data(ADDRESS, VOUT_COMMAND)))
+            bus.write_byte_data(ADDRESS, PAGE, model.page)
+        except OSError as error:
+            print("masters: {}: {}".format(what, error), file=sys.stderr)
+            raise
         equal(found, list(zip(model.modes, model.words)), "the registers after " + what)
 
 

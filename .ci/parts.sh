@@ -1,4 +1,4 @@
-# shellcheck shell=sh
+# shellcheck shell=sh disable=SC2154 # (`temporary` is set by who reads this)
 # How the gate runs its parts, counts and ends. Who reads this sets `temporary` to an empty folder of
 # its own, and may set `minutes`: so long the gate has by the clock.
 

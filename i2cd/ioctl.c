@@ -180,7 +180,7 @@ static void transfer_long(const struct cuse *cuse, struct call *call, struct i2c
 static void transfer(const struct cuse *cuse, struct call *call)
 {
     struct i2c_rdwr_ioctl_data all;
-    struct i2c_msg messages[MOST_MESSAGES];
+    struct i2c_msg messages[MOST_MESSAGES] = { { 0, 0, 0, NULL } };
     struct iovec read[MOST_MESSAGES];
     size_t parts = 0;
     want_in(call, call->head.arg, sizeof all);

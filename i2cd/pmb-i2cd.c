@@ -287,9 +287,22 @@ static void serve(const char *log)
     }
 }
 
+/* Opens what is closed of standard input, output and error: else what is opened next would take their
+ * place, and get what the server says. */
+static void open_standard(void)
+{
+    int opened;
+    do {
+        opened = open("/dev/null", O_RDWR);
+    } while (opened >= 0 && opened <= STDERR_FILENO);
+    if (opened >= 0)
+        close(opened);
+}
+
 int main(int count, char **given)
 {
     sigset_t before;
+    open_standard();
     struct words words = read_words(count, given);
     open_adapter(words.profile);
     if (words.log)

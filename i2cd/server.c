@@ -8,6 +8,7 @@
 
 #include <errno.h>
 #include <fcntl.h>
+#include <stdarg.h>
 #include <stdint.h>
 #include <stdio.h>
 #include <string.h>
@@ -31,6 +32,9 @@
 
 /* Descriptors that the server needs besides those of connections, with some to spare. */
 #define OTHER_DESCRIPTORS 16
+
+/* The most lines a minute of what went wrong with connections. */
+#define MOST_LINES 20
 
 /* ---- the socket */
 
@@ -154,10 +158,46 @@ void server_close(struct server *server)
         close(server->client[--server->count].socket);
 }
 
+/* ---- what went wrong */
+
+/* Says what went wrong with a connection. Whoever may connect can make these lines, so there are a few in a
+ * minute, and then one that no more come; and there are none where standard error is full. */
+__attribute__((format(printf, 2, 3))) static void tell(const struct client *client, const char *why, ...)
+{
+    static time_t minute;
+    static unsigned lines;
+    struct ucred program = { 0, 0, 0 };
+    socklen_t length = sizeof program;
+    struct pollfd room = { STDERR_FILENO, POLLOUT, 0 };
+    time_t now = time(NULL) / 60;
+    if (now != minute)
+        lines = 0;
+    minute = now;
+    if (lines > MOST_LINES || poll(&room, 1, 0) != 1)
+        return;
+    if (lines++ == MOST_LINES) {
+        fprintf(stderr, "pmb-i2cd: what goes wrong with connections is left out for up to a minute\n");
+        return;
+    }
+    va_list rest;
+    getsockopt(client->socket, SOL_SOCKET, SO_PEERCRED, &program, &length);
+    fprintf(stderr, "pmb-i2cd: connection of process %ld: ", (long)program.pid);
+    va_start(rest, why);
+    vfprintf(stderr, why, rest);
+    va_end(rest);
+    fputc('\n', stderr);
+}
+
 /* ---- replies */
 
+/* Whether a reply can't be sent since nobody waits for it any more. */
+static int is_left(int error)
+{
+    return error == EPIPE || error == ECONNRESET || error == ECONNREFUSED || error == ENOTCONN;
+}
+
 /* Sends the reply. Returns whether its end can be one of a program's. */
-static int send_reply(struct request *request, int result)
+static int send_reply(const struct client *client, struct request *request, int result)
 {
     struct wire_reply head = { result, 0 };
     struct iovec parts[1 + MOST_MESSAGES] = { { &head, sizeof head } };
@@ -173,15 +213,17 @@ static int send_reply(struct request *request, int result)
         int size = WIRE_BUFFER;
         setsockopt(request->reply, SOL_SOCKET, SO_SNDBUF, &size, sizeof size);
     }
-    if (sendmsg(request->reply, &packet, MSG_DONTWAIT | MSG_NOSIGNAL) >= 0)
-        return 1;
-    if (errno == EMSGSIZE || errno == ENOBUFS || errno == ENOMEM) {
+    ssize_t sent = sendmsg(request->reply, &packet, MSG_DONTWAIT | MSG_NOSIGNAL);
+    if (sent < 0 && (errno == EMSGSIZE || errno == ENOBUFS || errno == ENOMEM)) {
         head = (struct wire_reply){ -ENOMEM, 0 };
         packet.msg_iovlen = 1;
-        sendmsg(request->reply, &packet, MSG_DONTWAIT | MSG_NOSIGNAL);
-        return 1;
+        sent = sendmsg(request->reply, &packet, MSG_DONTWAIT | MSG_NOSIGNAL);
     }
-    return errno != ENOTSOCK && errno != EBADF;
+    if (sent >= 0 || is_left(errno))
+        return 1;
+    int is_socket = errno != ENOTSOCK && errno != EBADF;
+    tell(client, is_socket ? "a reply is lost: %s" : "ended, the descriptor for a reply: %s", strerror(errno));
+    return is_socket;
 }
 
 /* ---- packets */
@@ -213,6 +255,19 @@ static int one_descriptor(struct msghdr *packet)
     return found;
 }
 
+/* Says why a connection ends at a packet that can't have a reply, but where its program has closed it. */
+static void tell_end(const struct client *client, ssize_t length, int flags)
+{
+    if (length < 0)
+        tell(client, "ended, no packet can be taken: %s", strerror(errno));
+    else if (flags & MSG_TRUNC)
+        tell(client, "ended, a packet is too long");
+    else if (flags & MSG_CTRUNC)
+        tell(client, "ended, a packet came with more descriptors than there is room for");
+    else if (length > 0)
+        tell(client, "ended, a packet came without one descriptor for its reply, or with two");
+}
+
 /* Takes a connection's next packet, and does its request. Returns whether the connection goes on. */
 static int serve_client(struct client *client, struct adapter *adapter)
 {
@@ -227,25 +282,38 @@ static int serve_client(struct client *client, struct adapter *adapter)
                              .msg_control = control.room,
                              .msg_controllen = sizeof control.room };
     ssize_t length = recvmsg(client->socket, &packet, MSG_DONTWAIT | MSG_CMSG_CLOEXEC);
-    if (length < 0)
-        return errno == EAGAIN || errno == EINTR;
+    if (length < 0 && (errno == EAGAIN || errno == EINTR))
+        return 1;
     struct request request = { .packet = bytes, .length = (size_t)length };
-    request.reply = one_descriptor(&packet);
-    if (request.reply < 0)
+    request.reply = length < 0 ? -1 : one_descriptor(&packet);
+    if (request.reply < 0) {
+        tell_end(client, length, packet.msg_flags);
         return 0;
+    }
     int result = perform(&request, &client->file, adapter);
-    int goes_on = result != -EBADE && send_reply(&request, result);
+    if (result == -EBADE)
+        tell(client, "ended, a packet of %zd bytes is no request", length);
+    int goes_on = result != -EBADE && send_reply(client, &request, result);
     close(request.reply);
     return goes_on;
 }
 
+/* Whether an errno says that there is no descriptor or no memory now. */
+static int is_scarce(int error)
+{
+    return error == EMFILE || error == ENFILE || error == ENOBUFS || error == ENOMEM;
+}
+
+/* Takes a connection, where one more descriptor is left then: with each request comes one for its reply. */
 static void take_client(struct server *server)
 {
-    int socket = accept4(server->listener, NULL, NULL, SOCK_CLOEXEC | SOCK_NONBLOCK);
+    int spare = fcntl(server->listener, F_DUPFD_CLOEXEC, 0);
+    int socket = spare < 0 ? -1 : accept4(server->listener, NULL, NULL, SOCK_CLOEXEC | SOCK_NONBLOCK);
+    server->is_short = socket < 0 && is_scarce(errno);
+    if (spare >= 0)
+        close(spare);
     if (socket >= 0)
         server->client[server->count++] = (struct client){ socket, { 0, 0 } };
-    else
-        server->is_short = errno == EMFILE || errno == ENFILE || errno == ENOBUFS || errno == ENOMEM;
 }
 
 /* ---- the loop's part */

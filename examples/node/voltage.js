@@ -1,7 +1,8 @@
 // An output voltage from Node.js: its code, the packet error code of the packet that sets it, and what
 // a capture of that packet says. binding.c is the library's binding; Node's headers come with it.
 //
-//     cc -shared -fPIC -Iinclude -I"$(dirname "$(dirname "$(command -v node)")")/include/node" \
+//     cc -O2 -D_FORTIFY_SOURCE=3 -fstack-protector-strong -Wl,-z,relro,-z,now -shared -fPIC -Iinclude \
+//         -I"$(dirname "$(dirname "$(command -v node)")")/include/node" \
 //         examples/node/binding.c release/libpmb.a -o pmb.node
 //     node examples/node/voltage.js ./pmb.node
 'use strict'

@@ -37,6 +37,7 @@ int connection_access(int descriptor)
     socklen_t length = sizeof name;
     int before = errno;
     int access = -1;
+    name.sun_family = AF_UNSPEC;
     if (getsockname(descriptor, (struct sockaddr *)&name, &length) == 0 && name.sun_family == AF_UNIX &&
         length == offsetof(struct sockaddr_un, sun_path) + 18 + OWN_LENGTH && name.sun_path[0] == 0 &&
         memcmp(name.sun_path + 1, OWN_NAME, OWN_LENGTH) == 0)
@@ -52,7 +53,9 @@ static int name_own_end(int descriptor, int access)
     socklen_t length = offsetof(struct sockaddr_un, sun_path) + 18 + OWN_LENGTH;
     uint64_t number = (uint64_t)getpid() << 32;
     for (int tries = 0; tries < 100; tries++, number++) {
-        getrandom(&number, sizeof number, GRND_NONBLOCK);
+        /* (where there is no random number, another one that no process has now) */
+        ssize_t drawn = getrandom(&number, sizeof number, GRND_NONBLOCK);
+        (void)drawn;
         snprintf(name.sun_path + 1, sizeof name.sun_path - 1, "%s%d%016llx", OWN_NAME, access,
                  (unsigned long long)number);
         if (bind(descriptor, (struct sockaddr *)&name, length) == 0)
@@ -63,7 +66,24 @@ static int name_own_end(int descriptor, int access)
     return -1;
 }
 
-/* Connects to the server. ENODEV where there is none, as where a bus has no adapter. */
+/* What open fails with where a connection can't be had: ENODEV where there is no server, as where a bus has
+ * no adapter. */
+static int error_of_connect(int error)
+{
+    switch (error) {
+    case EACCES:
+    case EPERM:
+        return EACCES;
+    case ENFILE:
+    case ENOBUFS:
+    case ENOMEM:
+        return ENOMEM;
+    default:
+        return ENODEV;
+    }
+}
+
+/* Connects to the server. */
 static int open_bus(int flags)
 {
     struct sockaddr_un name = { .sun_family = AF_UNIX };
@@ -80,7 +100,7 @@ static int open_bus(int flags)
     result = name_own_end(descriptor, flags & O_ACCMODE);
     while (result == 0 && connect(descriptor, (struct sockaddr *)&name, sizeof name) != 0) {
         result = errno == EINTR ? 0 : -1;
-        errno = errno == EACCES || errno == EPERM ? EACCES : ENODEV;
+        errno = error_of_connect(errno);
     }
     if (result == 0)
         return descriptor;

@@ -102,7 +102,7 @@ static int send_request(int connection, struct wire_request head, const struct i
 /* Takes the reply, and what follows its head, into so many places. */
 static int take_reply(int reply, const struct iovec *data, size_t count)
 {
-    struct wire_reply head;
+    struct wire_reply head = { 0, 0 };
     struct iovec parts[1 + MOST_MESSAGES] = { { &head, sizeof head } };
     struct msghdr packet = { .msg_iov = parts, .msg_iovlen = 1 + count };
     size_t room = 0;
@@ -114,6 +114,13 @@ static int take_reply(int reply, const struct iovec *data, size_t count)
     do {
         length = recvmsg(reply, &packet, 0);
     } while (length < 0 && errno == EINTR);
+    /* The server sends the reply, and closes its end. Where both happen between two looks of the kernel, first
+     * for a packet and then for the end, a wait returns the end (__skb_wait_for_more_packets of
+     * net/core/datagram.c), and the packet is there all the same. */
+    if (length == 0)
+        length = recvmsg(reply, &packet, MSG_DONTWAIT);
+    if (length < 0 && (errno == ENOMEM || errno == ENOBUFS))
+        return -ENOMEM;
     if (length < 0)
         return errno == EFAULT ? -EFAULT : -ENODEV;
     if ((size_t)length < sizeof head) /* the server is gone, or has ended the connection */

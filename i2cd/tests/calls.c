@@ -459,7 +459,7 @@ static void sent(int file)
         int got;
         close(file);
         close(pair[0]);
-        if (recvmsg(pair[1], &packet, 0) != 1)
+        if (recvmsg(pair[1], &packet, 0) != 1 || CMSG_FIRSTHDR(&packet) == NULL)
             _exit(2);
         memcpy(&got, CMSG_DATA(CMSG_FIRSTHDR(&packet)), sizeof got);
         _exit(read_word(got, 0x88) != 0xd300);

@@ -84,6 +84,7 @@ server=''
 
 # (a log that nobody reads any further stops the bus, and not the end of the server)
 mkfifo "$temporary/pipe"
+# shellcheck disable=SC2217 # (it holds the pipe, and reads nothing)
 sleep 100 <"$temporary/pipe" &
 reader=$!
 start "$socket" "$i2cd" "$sample" --log "$temporary/pipe"
@@ -199,7 +200,9 @@ ends 125 'LD_PRELOAD takes no path with a blank' "$i2cd" "$sample" \
 # shellcheck disable=SC2016
 ends 0 "^$temporary/plain/libpmb-i2cdev.so\$" sh -c 'cd "$1" && shift && "$@"' sh "$temporary" \
     "$i2cd" "$sample" --shim plain/libpmb-i2cdev.so --run -- sh -c 'echo "$LD_PRELOAD"'
-cp -R install.sh include man "$temporary/clone" &&
+mkdir "$temporary/clone/examples"
+cp -R install.sh include man completions "$temporary/clone" &&
+    cp -R examples/profiles "$temporary/clone/examples" &&
     cp -R release/pmb release/libpmb.* release/SHA256SUMS release/abi release/templates \
         "$temporary/clone/release" &&
     cp i2cd/pmb-i2cd.1 "$temporary/clone/i2cd" &&
