@@ -69,6 +69,12 @@ def released(processor):
     return os.path.join(release, FOLDERS[processor])
 
 
+def page():
+    """The page: of the archive, or of the clone."""
+    archived = os.path.join(ARCHIVED, "pmb.html")
+    return archived if os.path.isdir(ARCHIVED) else os.path.join(os.path.dirname(RELEASE), "web", "pmb.html")
+
+
 def processor_of(config_settings):
     """The processor that the wheel is for. Where there is no library for it, pip shows the sentence."""
     found = (config_settings or {}).get("processor", platform.machine())
@@ -100,6 +106,8 @@ def files(processor):
     yield "pmb/libpmb.so", 0o755, read(os.path.join(release, "libpmb.so"))
     # (python3 -m pmb starts it)
     yield "pmb/pmb", 0o755, read(os.path.join(release, "pmb"))
+    # (pmb.report writes it with recordings inside)
+    yield "pmb/page.html", 0o644, read(page())
 
 
 def sources():
@@ -109,6 +117,7 @@ def sources():
         yield name, 0o644, read(os.path.join(HERE, name))
     for name, content in modules():
         yield name, 0o644, content
+    yield "release/pmb.html", 0o644, read(page())
     for processor, folder in FOLDERS.items():
         for name in ("libpmb.so", "pmb"):
             path = os.path.join("release", folder, name)

@@ -78,6 +78,7 @@ from ._library import Result as _Result
 from ._pieces import Content
 from ._pieces import Pieces as _Pieces
 from ._pieces import awaited_pieces as _awaited_pieces
+from ._report import report as report
 from ._pieces import bytes_of as _bytes
 from ._pieces import pieces_of as _pieces_of
 from ._pieces import wrong_type as _wrong_type
@@ -111,6 +112,7 @@ __all__ = [
     "pec",
     "quantity",
     "quantity_text",
+    "report",
     "run",
     "show",
     "transactions",

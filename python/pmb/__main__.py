@@ -3,7 +3,10 @@
     python3 -m pmb show --sample <capture.txt
 
 It stands beside the library, and takes the place of Python's process. Where there is none that can
-start, the exit status is 125, as it is of the program's launcher.
+start, the exit status is 125, as it is of the program's launcher. One command is Python's own, and
+writes the page with recordings inside:
+
+    python3 -m pmb report -p bench.toml trace.txt -o report.html
 """
 
 import os
@@ -13,6 +16,7 @@ import sys
 from typing import List
 
 from ._library import released
+from ._report import main as report
 
 # What starts a program that may be read and not executed, and where there is no glibc. Each is a
 # name that the system gives to it.
@@ -30,6 +34,8 @@ def _started(program: str) -> List[str]:
 
 def main() -> None:
     """Runs the program, and does not return."""
+    if sys.argv[1:2] == ["report"]:
+        sys.exit(report(sys.argv[2:]))
     program = os.path.join(released(), "pmb")
     if not os.path.exists(program):
         why = "this package has the library without the program, which would be {}".format(program)
