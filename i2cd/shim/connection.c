@@ -11,6 +11,7 @@
 
 #include <errno.h>
 #include <fcntl.h>
+#include <poll.h>
 #include <stddef.h>
 #include <stdint.h>
 #include <stdio.h>
@@ -21,12 +22,17 @@
 #include <sys/stat.h>
 #include <sys/sysmacros.h>
 #include <sys/un.h>
+#include <time.h>
 #include <unistd.h>
 
 /* The name of a connection's own end: this, a digit for the access (O_RDONLY, O_WRONLY or O_RDWR), and
  * 16 random digits. */
 #define OWN_NAME "pmb-i2cdev-"
 #define OWN_LENGTH (sizeof OWN_NAME - 1)
+
+/* How often a server is asked that has made its socket just now, and the time in between, in milliseconds. */
+#define NEW_TRIES 100
+#define NEW_WAIT 10
 
 /* The major number of the devices of i2c-dev (Linux's Documentation/admin-guide/devices.txt). */
 #define I2C_MAJOR 89
@@ -83,12 +89,19 @@ static int error_of_connect(int error)
     }
 }
 
+/* Whether a server may have made its socket just now, and not listen yet: then it is asked again. */
+static int is_new(const char *path)
+{
+    struct stat found;
+    return lstat(path, &found) == 0 && found.st_mtime + 1 >= time(NULL);
+}
+
 /* Connects to the server. */
 static int open_bus(int flags)
 {
     struct sockaddr_un name = { .sun_family = AF_UNIX };
     const char *path = getenv("PMB_I2C_SOCKET");
-    int type = SOCK_SEQPACKET | (flags & O_CLOEXEC ? SOCK_CLOEXEC : 0), result;
+    int type = SOCK_SEQPACKET | (flags & O_CLOEXEC ? SOCK_CLOEXEC : 0);
     if (path == NULL || *path == 0 || strlen(path) >= sizeof name.sun_path) {
         errno = ENODEV;
         return -1;
@@ -97,13 +110,17 @@ static int open_bus(int flags)
     int descriptor = socket(AF_UNIX, type, 0);
     if (descriptor < 0)
         return -1;
-    result = name_own_end(descriptor, flags & O_ACCMODE);
-    while (result == 0 && connect(descriptor, (struct sockaddr *)&name, sizeof name) != 0) {
-        result = errno == EINTR ? 0 : -1;
-        errno = error_of_connect(errno);
+    int result = name_own_end(descriptor, flags & O_ACCMODE);
+    for (int tries = 0; result == 0; tries++) {
+        if (connect(descriptor, (struct sockaddr *)&name, sizeof name) == 0)
+            return descriptor;
+        if (errno == ECONNREFUSED && tries < NEW_TRIES && is_new(path)) {
+            poll(NULL, 0, NEW_WAIT);
+        } else if (errno != EINTR) {
+            errno = error_of_connect(errno);
+            result = -1;
+        }
     }
-    if (result == 0)
-        return descriptor;
     int error = errno;
     close(descriptor);
     errno = error;
