@@ -177,3 +177,10 @@ def made() -> Write:
         "code": "03",
         "bytes": "",
     }
+
+
+def reports(path: pathlib.Path) -> None:
+    pmb.report(None, [path, "trace.txt"], path)
+    pmb.report("", {"one.txt": b"S", "two.txt": "S"}, "report.html", name="bench.toml")
+    pmb.report(None, 3, path)  # type: ignore[arg-type]
+    pmb.report(b"", [path], path)  # type: ignore[arg-type]

@@ -382,29 +382,31 @@ class Lanes extends Tracks {
             else context.rect(x, top, wide, room);
             context.fill();
             context.globalAlpha = 1;
-            if (wide > 44) this.paintWords(context, styles, row, x, top, wide, room);
-            else if (reading.hasTimes && next - x > 60 && to - from < 80 && i + 1 < to) this.paintWords(
-                context, styles, row, x + wide + 2, top,
-                Math.min(this.toX(reading.place(rows.items[i + 1])), next) - x - wide - 4, room, true,
-            );
+            if (to - from > 120) continue;
+            const last = i + 1 < rows.length ? this.toX(reading.place(rows.items[i + 1])) : this.left + this.width;
+            const gap = reading.hasTimes ? Math.min(last, this.left + this.width + 10) - x - wide : 0;
+            if (wide > 44 || gap > 56) this.paintWords(context, styles, row, { x, y: top, wide, high: room, gap });
         }
     }
 
-    // What a packet says, inside its box or behind it.
-    paintWords(context, styles, row, x, y, wide, high, behind = false) {
-        if (wide < 26) return;
+    // What a packet says: inside its box, or behind it where it fits only there.
+    paintWords(context, styles, row, { x, y, wide, high, gap }) {
         const found = this.reading.text(row);
         if (!found) return;
         const { object } = found;
         const name = shortCommand(object.command ?? object.code ?? (object.kind === 'alert' ? 'alert' : object.kind));
         const text = found.says ? `${name}  ${found.says}` : name;
+        context.font = `600 10.5px ${styles.font}`;
+        const behind = context.measureText(text).width + 8 > wide && gap > wide;
+        if (!behind && wide <= 44) return;
+        const [from, room] = behind ? [x + wide + 1, gap - 4] : [x, wide - 2];
         context.save();
         context.beginPath();
-        context.rect(x, y, wide - 2, high);
+        context.rect(from, y, room, high);
         context.clip();
-        context.fillStyle = behind ? styles.muted : styles.panel;
-        context.font = `${behind ? '' : '600 '}10.5px ${styles.font}`;
-        context.fillText(text, x + 4, y + high / 2 + 0.5);
+        context.fillStyle = behind ? styles.text : styles.panel;
+        if (behind) context.font = `10.5px ${styles.font}`;
+        context.fillText(text, from + 4, y + high / 2 + 0.5);
         context.restore();
     }
 

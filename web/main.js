@@ -562,6 +562,7 @@ class Page {
         const cancelled = new AbortController();
         reading.cancel = cancelled;
         const stats = program(['stats', '--json', ...this.readWords], input, { signal: cancelled.signal });
+        stats.catch(() => {}); // (it is awaited below, unless the reading was cancelled)
         const ended = await json;
         if (!current()) return;
         if (ended.error.startsWith('pmb: profile')) {

@@ -1,6 +1,6 @@
 /* interrupted.c: calls on a bus while the processor is interrupted all the time, by a clock of perf. It counts
- * those that fail: without the second look for a reply in shim/request.c one in some hundred thousand does, with
- * ENODEV. (perf_event_open may need root.)
+ * those that fail: without the second look for a reply in shim/request.c one of some million does, with ENODEV.
+ * (perf_event_open may need root.)
  *
  *   pmb-i2cd PROFILE --run -- interrupted PATH SECONDS
  */
