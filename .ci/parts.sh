@@ -46,8 +46,8 @@ part() {
         }
     ' "$temporary/said")
     echo "$counted" >>"$temporary/counts"
-    # (the parts of ./test have lines of their own)
-    if [ "$name" = test ]; then
+    # (the parts of ./test, some of which .ci/long runs, have lines of their own)
+    if [ "$name" = test ] || [ "$name" = long ]; then
         sed -n 's/^\([a-z][a-z_0-9]*\) *\([0-9]* passed, .*\)/\1 \2/p' "$temporary/said"
     else
         echo "$name ${counted% * *} passed, $(echo "$counted" | cut -d ' ' -f 2) failed, ${counted##* } skipped"

@@ -10,7 +10,7 @@ import pathlib
 import socket
 import subprocess
 import sys
-from typing import IO, AsyncIterator, Dict, Iterator, List, Optional, Union
+from typing import IO, Any, AsyncIterator, Dict, Iterator, List, Optional, Union
 
 import pmb
 import pmb.cluster
@@ -177,6 +177,18 @@ def made() -> Write:
         "code": "03",
         "bytes": "",
     }
+
+
+def tables(profile: pmb.Profile, text: str, file: IO[str]) -> int:
+    table: pmb.Table = pmb.table(profile, file, devices=[0x58], late=True, time="text")
+    columns: Dict[str, List[Any]] = profile.table([text]).to_pydict(["time", "value"])
+    capsule: object = table.__arrow_c_stream__()
+    pmb.table(profile, text, digits=3)  # type: ignore[call-arg]
+    pmb.table(profile, text, time=3)  # type: ignore[arg-type]
+    pmb.table(profile, 5)  # type: ignore[arg-type]
+    table.packets = 0  # type: ignore[misc]
+    print(columns, capsule, table.colums)  # type: ignore[attr-defined]
+    return len(table) + table.packets + table.refusals + table.nbytes
 
 
 def reports(path: pathlib.Path) -> None:

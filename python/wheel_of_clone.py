@@ -104,6 +104,8 @@ def files(processor):
     for name, content in modules():
         yield name, 0o644, content
     yield "pmb/libpmb.so", 0o755, read(os.path.join(release, "libpmb.so"))
+    # (pmb.table makes its columns there)
+    yield "pmb/libpmb_table.so", 0o755, read(os.path.join(release, "libpmb_table.so"))
     # (python3 -m pmb starts it)
     yield "pmb/pmb", 0o755, read(os.path.join(release, "pmb"))
     # (pmb.report writes it with recordings inside)
@@ -119,7 +121,7 @@ def sources():
         yield name, 0o644, content
     yield "release/pmb.html", 0o644, read(page())
     for processor, folder in FOLDERS.items():
-        for name in ("libpmb.so", "pmb"):
+        for name in ("libpmb.so", "libpmb_table.so", "pmb"):
             path = os.path.join("release", folder, name)
             yield path, 0o755, read(os.path.join(released(processor), name))
 

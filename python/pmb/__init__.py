@@ -97,6 +97,7 @@ __all__ = [
     "ProfileError",
     "Reader",
     "Reading",
+    "Table",
     "Text",
     "TokenError",
     "TransferError",
@@ -115,6 +116,7 @@ __all__ = [
     "report",
     "run",
     "show",
+    "table",
     "transactions",
     "version",
 ]
@@ -948,6 +950,33 @@ class Profile:
         """
         return transactions(self, capture, devices, digits, late, fixed_vout_mode, keep_going)
 
+    def table(
+        self,
+        capture: Union[Content, Iterable[Content]],
+        devices: _Devices = None,
+        *,
+        late: bool = False,
+        fixed_vout_mode: bool = False,
+        keep_going: bool = False,
+        time: str = "seconds",
+    ) -> "Table":
+        """What `pmb.table` returns under this profile.
+
+            >>> import pmb
+            >>> profile = pmb.Profile("[[device]]\\naddress = 0x58\\npec = 'optional'")
+            >>> len(profile.table("S b0 A 03 A P\\n" * 3))
+            3
+        """
+        return table(
+            self,
+            capture,
+            devices,
+            late=late,
+            fixed_vout_mode=fixed_vout_mode,
+            keep_going=keep_going,
+            time=time,
+        )
+
     def close(self) -> None:
         """Gives the memory back. Calls and readers that are under way go on. To close it again does
         nothing, and each other call is a `ValueError` from then on.
@@ -1768,6 +1797,8 @@ from ._bus import i2c_msg as i2c_msg  # noqa: E402
 from ._device import Device as Device  # noqa: E402
 from ._reading import Reading as Reading  # noqa: E402
 from ._reading import TransferError as TransferError  # noqa: E402
+from ._table import Table as Table  # noqa: E402
+from ._table import table as table  # noqa: E402
 
 if not _HAS_BUSES:
     # (an older library)
@@ -1777,5 +1808,6 @@ if not _HAS_BUSES:
 
 if not _HAS_READERS:
     # (an older library: a capture that comes in pieces is a NotImplementedError)
-    __all__.remove("Reader")
-    del globals()["Reader"]
+    for _name in ("Reader", "Table", "table"):
+        __all__.remove(_name)
+        del globals()[_name]
