@@ -1,5 +1,5 @@
 """What is known of PAGE, PHASE and VOUT_MODE where a capture may begin in the middle, by
-docs/json.md."""
+docs/known.md."""
 
 from .packets import Read, Refused, Write
 from .profiles import ALL_PAGES
