@@ -185,6 +185,8 @@ static const struct bad {
     {DEVICE "phases = 0", PMB_BAD_VALUE, 0, -1},
     {DEVICE "protect = 1", PMB_WRONG_TYPE, 0, -1},
     {DEVICE "protect = true\nstandard = false", PMB_BAD_VALUE, 0, -1},
+    {DEVICE "also = 0x10", PMB_WRONG_TYPE, 0, -1},
+    {DEVICE "also = [0x10, 0x5b]", PMB_BAD_VALUE, 0, -1},
     {DEVICE "protect = true\n" COMMAND "name = \"WRITE_PROTECT\"\ninitial = \"01\"", PMB_BAD_INITIAL, 0, -1},
     {DEVICE COMMAND "name = \"READ_VIN\"\nunit = \"\"", PMB_BAD_VALUE, 0, 0},
     {DEVICE COMMAND "name = \"MFR_ID\"\nunit = \"V\"", PMB_UNKNOWN_KEY, 0, 0},

@@ -219,6 +219,10 @@ def profiles():
     yield "the most integers of another key", fill("a=[", "1,", "]"), unknown
     yield "the most addresses to ignore", fill("ignore=[", "1,", "]\ndevice=[]"), TAKEN
     yield "the most addresses to ignore, the last none", fill("ignore=[", "1,", "128]\ndevice=[]"), bad
+    yield "the most other addresses", fill("[[device]]\naddress=16\npec='off'\nalso=[", "16,", "]"), TAKEN
+    yield ("the most other addresses, the last no device's",
+           fill("[[device]]\naddress=16\npec='off'\nalso=[", "16,", "17]"),
+           refused("BadValue", " in device 0"))
     yield ("the most modes of pages",
            fill("[[device]]\naddress=16\npec='off'\nvout_mode=[", "1,", "]"),
            refused("BadValue", " in device 0"))

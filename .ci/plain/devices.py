@@ -4,7 +4,7 @@ from . import numbers
 from .lines import Ask, Get, Set
 from .notes import number_format
 from .numbers import Fault
-from .packets import SIZES, Call, Part, Read, Refused, Write, check_parts, check_pec, fits
+from .packets import SIZES, Call, Part, Read, Refused, Write, check_parts, check_pec, fits, has_write
 from .profiles import ALL_PAGES, PROTECTIONS
 
 BAD_COMMAND, BAD_VALUE = 0x80, 0x40
@@ -84,6 +84,11 @@ class SimulatedDevice:
                 old = self.register(page, entry)
                 value = tuple(byte & ~cleared for byte, cleared in zip(old, data))
             self.changed[page, code] = value
+
+    def take(self, code, data):
+        """What came to another address acts if it is a write of the device's own commands."""
+        if has_write(self.device, code, data):
+            self.write(code, data)
 
     def note(self, bit):
         """A refusal sets a bit of STATUS_CML, if that can be read."""
@@ -170,17 +175,28 @@ class Bench:
             device = self.devices[part.address]
             if part.code == 0x00 and not device.is_page(part.data[0]):
                 before = tuple(parts[:i])
-                self.apply(before)
+                self.act(before)
                 device.note(BAD_VALUE)
+                self.act_elsewhere(before)
                 sent = (part.code, part.data[0])
                 result = "refused: leg %d byte 2" % (i + 1)
                 return Refused(before, part.address, sent, False), result
-        self.apply(parts)
+        self.act(parts)
+        self.act_elsewhere(parts)
         return Write(tuple(parts)), "done"
 
-    def apply(self, parts):
+    def act(self, parts):
+        """Each part acts on the device that has its address."""
         for part in parts:
             self.devices[part.address].write(part.code, part.data)
+
+    def act_elsewhere(self, parts):
+        """Then each device takes those at its other addresses, in the order of the addresses."""
+        at = {part.address: part for part in parts}
+        for address, device in self.devices.items():
+            for other in device.device.also:
+                if other != address and other in at:
+                    device.take(at[other].code, at[other].data)
 
     def make_read(self, request, entry, sent, result_of):
         """A read, or a call that sends some bytes."""

@@ -229,7 +229,7 @@ def spoiled(chance, table, seldom=0.01):
     table = {key: value for key, value in table.items() if value is not None}
     if chance.random() < seldom:
         keys = ("colour", "m", "code", "name", "address", "vid", "unsigned", "exponent", "unit",
-                "bits", "phased", "phases", "protect")
+                "bits", "phased", "phases", "protect", "also")
         table[chance.choice(keys)] = 1
     for key in list(table):
         if chance.random() < seldom:
@@ -248,6 +248,10 @@ def often(chance, share, *values):
 
 def profile_table(chance):
     devices = [device_table(chance) for _ in range(chance.choice((1, 1, 2, 3)))]
+    addresses = [device.get("address", 0x10) for device in devices]
+    for device in devices:
+        if chance.random() < 0.3:
+            device["also"] = other_addresses(chance, addresses)
     if chance.random() < 0.02:
         devices[-1] = 1
     return spoiled(chance, {"ignore": ignored(chance), "device": devices})
@@ -260,6 +264,15 @@ def ignored(chance):
     drawn = chance.sample(range(0x78, 0x80), chance.randrange(4)) + [0x0C] * chance.randrange(3)
     if chance.random() < 0.2:
         drawn += [chance.randrange(0x78), chance.choice((0, 127, 127, chance.choice((128, -1))))]
+    chance.shuffle(drawn)
+    return drawn
+
+
+def other_addresses(chance, addresses):
+    """Addresses of devices; seldom one that no device has, or one that is no address."""
+    drawn = [chance.choice(addresses) for _ in range(chance.choice((0, 1, 1, 2, 3)))]
+    if chance.random() < 0.05:
+        drawn.append(chance.choice((0x00, 0x5B, 127, 128, -1)))
     chance.shuffle(drawn)
     return drawn
 

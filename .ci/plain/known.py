@@ -1,7 +1,7 @@
 """What is known of PAGE, PHASE and VOUT_MODE where a capture may begin in the middle, by
 docs/known.md."""
 
-from .packets import Read, Refused, Write
+from .packets import Read, Refused, Write, has_write
 from .profiles import ALL_PAGES
 
 UNKNOWN = "unknown"
@@ -49,23 +49,42 @@ class Known:
 
     def observe(self, transaction):
         if isinstance(transaction, (Write, Refused)):
-            for part in transaction.parts:
-                self.tell(part.address, part.code, part.data)
-                if self.is_told and untells(part.code, part.data):
-                    self.modes[part.address] = [None] * len(self.modes[part.address])
+            for device in self.profile.devices:
+                self.take_parts(device, transaction.parts)
         if isinstance(transaction, Read):
             self.tell(transaction.address, transaction.code, transaction.reply)
 
     def drop_line(self):
-        """A line was dropped, and may have set any of them: what was told is not known any more. Where the
-        capture is read from its begin, PAGE and VOUT_MODE go on, but for a PAGE that the device lacks."""
-        self.phases = dict.fromkeys(self.phases)
-        for address, page in self.pages.items():
-            is_own = page == ALL_PAGES or page is not None and page < len(self.modes[address])
-            if self.is_late or not is_own:
-                self.pages[address] = None
+        """A line was dropped, and may have set PAGE, PHASE and VOUT_MODE of each device."""
+        for address in self.pages:
+            self.forget(address)
+
+    def forget(self, address):
+        """What was told of a device is not known any more. Where the capture is read from its begin, PAGE and
+        VOUT_MODE go on, but for a PAGE that the device lacks."""
+        page, count = self.pages[address], len(self.modes[address])
+        self.phases[address] = None
+        if self.is_late or not (page == ALL_PAGES or page is not None and page < count):
+            self.pages[address] = None
         if self.is_told:
-            self.modes = {address: [None] * len(modes) for address, modes in self.modes.items()}
+            self.modes[address] = [None] * count
+
+    def take_parts(self, device, parts):
+        """Complete parts of a packet. One that reaches the device at two of its addresses, which PMBus forbids,
+        leaves nothing known."""
+        elsewhere = [part for part in parts if part.address in device.also and has_write(device, part.code, part.data)]
+        taken = [part for part in parts if part.address == device.address or part in elsewhere]
+        if elsewhere and len(taken) > 1:
+            self.forget(device.address)
+            return
+        for part in taken:
+            self.take(device.address, part.code, part.data)
+
+    def take(self, address, code, data):
+        """A device takes what is written, at its own address or at another one."""
+        self.tell(address, code, data)
+        if self.is_told and untells(code, data):
+            self.modes[address] = [None] * len(self.modes[address])
 
     def tell(self, address, code, data):
         if code == 0x00:
@@ -77,7 +96,8 @@ class Known:
 
     def tell_mode(self, address, mode):
         page, modes = self.pages[address], self.modes[address]
-        if not self.profile.device(address).entry(0x20).paged or page == ALL_PAGES:
+        entry = self.profile.device(address).entry(VOUT_MODE)
+        if entry is None or not entry.paged or page == ALL_PAGES:
             modes[:] = [mode] * len(modes)
         elif page is None and len(modes) > 1:
             modes[:] = [one if one == mode else None for one in modes]

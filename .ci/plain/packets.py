@@ -78,6 +78,15 @@ def fits(form, data):
     return len(data) <= 255 if form == "block" else len(data) == SIZES[form]
 
 
+def has_write(device, code, data):
+    """Whether a device has such a write: the command, in a form that takes these data, and of PAGE a value
+    that is one of its own."""
+    entry = device.entry(code)
+    if entry is None or entry.write is None or not fits(entry.write, data):
+        return False
+    return code != 0x00 or data[0] < device.pages or data[0] == 0xFF
+
+
 def missing(form, sent):
     """How many bytes are missing, at least, after those of a wire; below 0 if it was over."""
     if form != "block":

@@ -1,7 +1,8 @@
 """Simulated parts on a drawn bus with damage, and what holds in them before each packet. What is done
 here goes by what happens on a bus, and not by what `pmb` makes of its capture: a leg that stands in an
 error, in a packet to a chip that speaks no PMBus, or behind one of these up to STOP, is done or not, as
-is drawn."""
+is drawn. Two of the parts take what is written at a global address, too; a packet that reaches a part
+twice acts in either order."""
 
 from typing import NamedTuple
 
@@ -10,6 +11,7 @@ PROFILE = b"""ignore = [0x50]
 address = 0x58
 pec = "optional"
 pages = 2
+also = [0x5b]
 [[device]]
 address = 0x59
 pec = "off"
@@ -18,11 +20,19 @@ address = 0x60
 pec = "off"
 phases = 3
 pages = 3
+also = [0x5b]
+[[device]]
+address = 0x5b
+pec = "off"
+pages = 3
 %%
 """
 PAGES = {0x58: 2, 0x59: 1, 0x60: 3}
+GLOBAL = 0x5B
+LISTENERS = (0x58, 0x60)
 MODES = (0x14, 0x17)
 ALL_PAGES = 0xFF
+RESTORES = (0x12, 0x16)
 # Fronts of packets in which an error comes, with it. Most write to no device of the profile.
 ERRORS = (
     "S 40 A 03 A", "S 42 A", "S b1 A 12 N", "S b5 A 12 A", "S a0 A 00 A", "S a0 A 00 A 10 A", "S a1 A 4d N",
@@ -54,23 +64,39 @@ class Part:
         return found.pop() if len(found) == 1 else None
 
     def do(self, chance, code, data):
-        if code == 0x00:
+        if code == 0x00 and (data[0] in range(PAGES[self.address]) or data[0] == ALL_PAGES):
             self.page = data[0]
         if code == 0x04:
             self.phase = data[0]
         if code == 0x20:
             self.modes = [data[0] if self.page in (page, ALL_PAGES) else mode
                           for page, mode in enumerate(self.modes)]
-        if code == 0x12:
+        if code == 0x05 and data[1] in range(PAGES[self.address]):
+            self.modes[data[1]] = data[3]
+        if code in RESTORES:
             self.modes = [chance.choice(MODES) for _ in self.modes]
+
+
+class Everyone:
+    """The global address: what is written there each of its parts does."""
+
+    address = GLOBAL
+
+    def __init__(self, parts):
+        self.parts = [part for part in parts if part.address in LISTENERS]
+
+    def do(self, chance, code, data):
+        for part in self.parts:
+            part.do(chance, code, data)
 
 
 def leg(chance, part):
     """Something that is written: the command, and its data."""
-    pages = [*range(PAGES[part.address]), ALL_PAGES]
+    pages = [*range(PAGES.get(part.address, 3)), ALL_PAGES]
     found = [(0x00, [chance.choice(pages)]), (0x20, [chance.choice(MODES)]), (0x20, [chance.choice(MODES)]),
-             (0x12, []), (0x03, [])]
-    if part.address == 0x60:
+             (chance.choice(RESTORES), []), (0x03, []),
+             (0x05, [3, chance.choice(pages[:-1]), 0x20, chance.choice(MODES)])]
+    if part.address in (0x60, GLOBAL):
         found.append((0x04, [chance.randrange(3)]))
     return chance.choice(found)
 
@@ -82,6 +108,7 @@ def words_of(part, code, data):
 def drawn(chance, count):
     """The lines of a capture, and the reads in it that tell a voltage or a phase's current."""
     parts = [Part(chance, address) for address in PAGES]
+    written = [*parts, Everyone(parts)]
     lines, readings = [], []
     for number in range(1, count + 1):
         part = chance.choice(parts)
@@ -102,33 +129,34 @@ def drawn(chance, count):
             at = 2 * part.address
             lines.append("S %02x A %02x A S %02x A %02x N P" % (at, code, at + 1, told[code]))
         elif what < 0.8:
-            group = chance.sample(parts, chance.choice((1, 1, 1, 2)))
+            group = chance.sample(written, chance.choice((1, 1, 1, 2)))
             said = [(it, leg(chance, it)) for it in group]
             text = " ".join(words_of(it, *told) for it, told in said)
             if chance.random() < 0.15:
                 # (one that is refused writes nothing)
-                other = chance.choice([it for it in parts if it not in group])
+                other = chance.choice([it for it in written if it not in group])
                 text += " S %02x N" % (2 * other.address)
             lines.append(text + " P")
-            for it, told in said:
+            for it, told in chance.sample(said, len(said)):
                 it.do(chance, *told)
         else:
-            lines.append(damage(chance, parts))
+            lines.append(damage(chance, written))
     return "\n".join(lines) + "\n", readings
 
 
-def damage(chance, parts):
+def damage(chance, written):
     """A line with an error, or with a word that is none."""
-    said = [(it, leg(chance, it)) for it in chance.choices(parts, k=chance.choice((0, 0, 1, 2)))]
+    said = [(it, leg(chance, it)) for it in chance.choices(written, k=chance.choice((0, 0, 1, 2)))]
     begin = chance.choice((*ERRORS, *ERRORS, "x", None))
     text = " ".join(words_of(it, *told) for it, told in said)
     if begin is None:
         # a packet whose STOP comes once more, or without its last ACK
-        it = chance.choice(parts)
+        it = chance.choice(written)
         told = leg(chance, it)
         said.insert(0, (it, told))
         begin = words_of(it, *told) + chance.choice((" A", " N A", " 00 00", " S A"))
     for it, told in said:
-        if chance.random() < 0.5:
-            it.do(chance, *told)
+        for part in it.parts if isinstance(it, Everyone) else (it,):
+            if chance.random() < 0.5:
+                part.do(chance, *told)
     return "%s %s P" % (begin, text)

@@ -85,6 +85,7 @@ class Device(NamedTuple):
     vid: Union[str, list, dict, None] = None  # a table, one for each page, or some by types
     phases: Optional[int] = None
     protect: bool = False  # whether it keeps to WRITE_PROTECT
+    also: list = []  # the other addresses at which its part takes what is written, each once, in order
 
     @property
     def pages(self):
@@ -253,7 +254,7 @@ LTC3880 = Profile((
         Entry(0xEA, "MFR_FAULT_LOG_STORE", write="zero"),
         Entry(0xEC, "MFR_FAULT_LOG_CLEAR", write="zero"),
         Entry(0xEE, "MFR_FAULT_LOG", read="block"),
-        modes=[0x14, 0x14],
+        modes=[0x14, 0x14], also=[0x5B],
     ),
     device(
         0x5B, "optional",
@@ -690,6 +691,11 @@ FAULTS = {
     ONE + b"phases = 256\nvid = 'vr14'\n": "BadValue in device 0",
     ONE + b"phases = '1'\nvid = 1\n": "WrongType in device 0",
     ONE + b"protect = 1\n": "WrongType in device 0",
+    ONE + b"also = 0x10\n": "WrongType in device 0",
+    ONE + b"also = [0x10, '0x11']\n": "WrongType in device 0",
+    ONE + b"also = [0x5b]\nstandard = false\nprotect = true\n": "BadValue in device 0",
+    ONE + b"also = [128]\n": "BadValue in device 0",
+    ONE + b"also = [0x5b, 1.5]\n": "BadValue in device 0",
     ONE + b"protect = true\nstandard = false\n": "BadValue in device 0",
     ONE + b"protect = true\ncommand = [{ name = 'WRITE_PROTECT', paged = true }]\n":
         "BadValue in device 0",

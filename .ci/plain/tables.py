@@ -19,7 +19,7 @@ KINDS = ("raw", "linear11", "vout", "vout_signed", "direct", "status", "half", *
          *("vid:" + table for table in TABLES), "text")
 TYPES = [str(number) for number in range(32)]  # of VID tables, as keys
 DEVICE_KEYS = ("address", "pec", "pages", "vout_mode", "standard", "vout_direct", "command", "name",
-               "vid", "phases", "protect")
+               "vid", "phases", "protect", "also")
 COMMAND_KEYS = ("code", "name", *WORDS, "kind", "m", "b", "r", "exponent", "paged", "initial",
                 "unsigned", "unit", "bits", "phased")
 
@@ -47,10 +47,11 @@ def profile_of(table):
     array = value_of(table, "device", list)
     need(len(array) <= 64, "TooManyDevices")
     ignored = ignored_of(table)
+    named = [one.get("address") for one in array if isinstance(one, dict)]
     devices = []
     for i, one in enumerate(array):
         place = "in device %d" % i
-        device = placed(place, device_of, one, devices, ignored or [])
+        device = placed(place, device_of, one, devices, ignored or [], named)
         for j, command in enumerate(one.get("command", [])):
             device = placed("%s command %d" % (place, j), with_command, device, one, j, command)
         placed(place, modes_go_together, device)
@@ -75,8 +76,9 @@ def placed(place, rule, *given):
         raise Fault("%s %s" % (fault, place)) from None
 
 
-def device_of(table, before, ignored):
-    """A device by its own keys, with the standard commands or none."""
+def device_of(table, before, ignored, named):
+    """A device by its own keys, with the standard commands or none; `named` is what the tables of all devices
+    have at `address`."""
     known_keys(table, DEVICE_KEYS)
     need("address" in table, "MissingKey")
     address = value_of(table, "address", int)
@@ -103,7 +105,17 @@ def device_of(table, before, ignored):
     phases = value_of(table, "phases", int)
     need(phases is None or 1 <= phases <= 255, "BadValue")
     protect = value_of(table, "protect", bool, False)
-    return Device(address, pec, entries, modes, vout_direct, name, vid, phases, protect)
+    also = value_of(table, "also", list, [])
+    for other in also:
+        need(type(other) is int, "WrongType")
+        need(0 <= other <= 127 and has_number(named, other), "BadValue")
+    also = sorted(set(also))
+    return Device(address, pec, entries, modes, vout_direct, name, vid, phases, protect, also)
+
+
+def has_number(values, number):
+    """Whether the number is among values of any types."""
+    return any(type(value) is int and value == number for value in values)
 
 
 def modes_of(value, pages):

@@ -19,13 +19,14 @@ use Rattle.pmb_keys.specs.CommandRules.{command_from, command_of, entry_rule, in
 use Rattle.pmb_keys.specs.FurtherKeys.{FurtherKeys, further_keys}
 use Rattle.pmb_keys.specs.DeviceKeys.{DeviceKeys}
 use Rattle.pmb_keys.specs.Rules.{typed}
+use Rattle.pmb_keys.proofs.Steps.{if_bind, if_steps, if_tested}
 use Rattle.pmb_table.specs.Profile.{at_command, commands_after, device_commands, placed, put, standard_commands}
 use Rattle.pmb_table.proofs.Accepted.{All-put, standard_is_command}
 use Rattle.pmb_table.proofs.StandardList.{standard_from, standard_from-all}
 use Rattle.pmb_json_objects.specs.Laws.{IsOfWords}
 use Rattle.pmb_accepted.proofs.Entries.{AreFurther, IsNamed, if_entry, if_further, if_unsigned, standard_named}
 use Rattle.pmb_accepted.proofs.Initial.{HoldsAtFirst, if_initial}
-use Rattle.pmb_accepted.proofs.Steps.{if_bind, if_placed, if_steps, if_tested}
+use Rattle.pmb_accepted.proofs.Steps.{if_placed}
 
 -- ---- one command
 

@@ -16,6 +16,7 @@ use Rattle.pmb_command.proofs.NameLemmas.{device_name}
 use Rattle.pmb_vid.specs.declared.table.VidTable.{VidTable}
 use Rattle.pmb_keys.specs.declared.fault.FaultKind.{FaultKind}
 use Rattle.pmb_keys.specs.declared.fault.FaultKind.TheVariants as faults
+use Rattle.pmb_keys.specs.Addresses.{also_rule}
 use Rattle.pmb_keys.specs.CommandRules.{byte_rule, coefficients, word_rule}
 use Rattle.pmb_keys.specs.DeviceKeys.{DeviceKeys, address_rule, coefficients_rule, device_key_names, device_keys}
 use Rattle.pmb_keys.specs.DeviceKeys.{modes_of}
@@ -23,11 +24,11 @@ use Rattle.pmb_keys.specs.DeviceKeys.{modes_rule, name_rule, other_keys, pages_r
 use Rattle.pmb_keys.specs.VidRule.{table_rule, tables_for, tables_of, types_from, types_rule, vid_rule}
 use Rattle.pmb_keys.specs.Rules.{decimals, defaulted, each_of, item_count, keys_of, natural_within, only, optional}
 use Rattle.pmb_keys.specs.Rules.{or_fault, required, typed}
+use Rattle.pmb_keys.proofs.Steps.{AreItems, if_bind, if_defaulted, if_each, if_optional, if_required, if_steps}
+use Rattle.pmb_keys.proofs.Steps.{if_tested}
 use Rattle.pmb_json_objects.specs.Laws.{AreOfWords}
 use Rattle.pmb_accepted.proofs.KindRanges.{of_words_sound}
 use Rattle.pmb_accepted.proofs.Numbers.{IsWithin, if_byte, if_coefficients, if_natural, if_within}
-use Rattle.pmb_accepted.proofs.Steps.{AreItems, if_bind, if_defaulted, if_each, if_optional, if_required, if_steps}
-use Rattle.pmb_accepted.proofs.Steps.{if_tested}
 
 -- ---- the address
 
@@ -158,9 +159,9 @@ pub record AreSoundKeys (taken ignored : List ℕ) (keys : DeviceKeys) : Type 0 
   pub tables : HasTableForEach keys.pages keys.vid
   pub phases : IfSome keys.phases (IsWithin 1 255)
 
-if_others : (taken ignored : List ℕ) (address : ℕ) (pec : PecMode) (ms : Members) → IsFree taken ignored address
-    → IfOk (other_keys address pec ms) (AreSoundKeys taken ignored)
-if_others taken ignored address pec ms free =
+if_others : (taken ignored named : List ℕ) (address : ℕ) (pec : PecMode) (ms : Members)
+    → IsFree taken ignored address → IfOk (other_keys named address pec ms) (AreSoundKeys taken ignored)
+if_others taken ignored named address pec ms free =
     if_steps (defaulted pages_rule 1 (codes "pages") ms) _ (IsWithin 1 32) _
     (if_defaulted pages_rule 1 (codes "pages") ms (IsWithin 1 32) (record { least = omega arith; most = omega arith })
     (if_natural faults.BadPages 1 32))
@@ -174,29 +175,30 @@ if_others taken ignored address pec ms free =
     (λ vout_direct vout. if_bind (defaulted (typed as_array) no_items (codes "command") ms) _ _
     (λ commands is. if_steps (optional name_rule (codes "name") ms) _ (λ o. IfSome o IsDeviceName) _
     (if_optional name_rule (codes "name") ms IsDeviceName if_name)
-    (λ name named. if_steps (optional (vid_rule pages) (codes "vid") ms) _
+    (λ name is_name. if_steps (optional (vid_rule pages) (codes "vid") ms) _
     (λ o. IfSome o (λ tables. HasTableForEach pages (Some tables))) _
     (if_optional (vid_rule pages) (codes "vid") ms (λ tables. HasTableForEach pages (Some tables))
     (λ d. if_tables pages d (as_array d) (as_table d)))
     (λ vid each. if_steps (optional phases_rule (codes "phases") ms) _ (λ o. IfSome o (IsWithin 1 255)) _
     (if_optional phases_rule (codes "phases") ms (IsWithin 1 255) (if_natural faults.BadValue 1 255))
     (λ phases count. if_bind (defaulted (typed as_bool) false (codes "protect") ms) _ _
-    (λ protect is. record {
+    (λ protect is. if_bind (defaulted (also_rule named) [] (codes "also") ms) _ _
+    (λ also is. record {
       free = free;
       pages = few;
-      name = named;
+      name = is_name;
       modes = are_modes;
       vout = vout;
       tables = has_tables pages vid each;
       phases = count;
-    })))))))))
+    }))))))))))
 
-pub if_device_keys : (taken ignored : List ℕ) (ms : Members)
-    → IfOk (device_keys taken ignored ms) (AreSoundKeys taken ignored)
-if_device_keys taken ignored ms =
+pub if_device_keys : (taken ignored named : List ℕ) (ms : Members)
+    → IfOk (device_keys taken ignored named ms) (AreSoundKeys taken ignored)
+if_device_keys taken ignored named ms =
     if_bind (only device_key_names ms) _ _
     (λ u known. if_steps (required (address_rule taken ignored) (codes "address") ms) _
     (IsFree taken ignored) _
     (if_required (address_rule taken ignored) (codes "address") ms (IsFree taken ignored) (if_address taken ignored))
     (λ address free. if_bind (required (word_rule faults.BadValue pec_words) (codes "pec") ms) _ _
-    (λ pec is. if_others taken ignored address pec ms free)))
+    (λ pec is. if_others taken ignored named address pec ms free)))

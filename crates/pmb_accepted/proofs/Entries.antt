@@ -25,11 +25,11 @@ use Rattle.pmb_keys.specs.FurtherKeys.{unit_rule, unit_without_key}
 use Rattle.pmb_keys.specs.Rules.{defaulted, only, optional, or_fault, typed}
 use Rattle.pmb_keys.proofs.Arrays.{bind-ok}
 use Rattle.pmb_keys.proofs.NamedBits.{named_bits, no_bits}
+use Rattle.pmb_keys.proofs.Steps.{if_bind, if_defaulted, if_optional, if_steps, if_tested}
 use Rattle.pmb_value.specs.declared.number_format.NumberFormat.TheVariants.{Linear11, Linear11Fixed, Word, Half, Vid}
 use Rattle.pmb_json_objects.specs.Laws.{IsOfWords}
 use Rattle.pmb_accepted.proofs.KindRanges.{IsSound, if_exponent_key, if_kind, if_unsigned_key}
 use Rattle.pmb_accepted.proofs.Numbers.{if_byte}
-use Rattle.pmb_accepted.proofs.Steps.{if_bind, if_defaulted, if_optional, if_steps, if_tested}
 
 -- What is known of an entry before its parts are looked at together.
 pub record IsNamed (e : EntryParts) : Type 0 where

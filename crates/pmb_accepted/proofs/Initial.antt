@@ -13,7 +13,7 @@ use Rattle.pmb_keys.specs.declared.fault.FaultKind.TheVariants as faults
 use Rattle.pmb_keys.specs.CommandRules.{bytes_rule, hex_bytes, initial_of, initial_rule, items_check}
 use Rattle.pmb_keys.specs.CommandRules.{items_rule, register_check}
 use Rattle.pmb_keys.specs.Rules.{each_of, item_count, or_fault, typed, unless}
-use Rattle.pmb_accepted.proofs.Steps.{AreItems, if_bind, if_each, if_steps, if_tested}
+use Rattle.pmb_keys.proofs.Steps.{AreItems, if_bind, if_each, if_steps, if_tested}
 
 -- ---- bytes
 

@@ -15,13 +15,13 @@ use Rattle.pmb_keys.specs.CommandRules.{kind_rule}
 use Rattle.pmb_keys.specs.CommandRules.{kind_words, linear16_kind, no_coefficients, of_words, plain_kind, word_rule}
 use Rattle.pmb_keys.specs.CommandRules.{words_of, words_rule}
 use Rattle.pmb_keys.specs.Rules.{named, typed}
+use Rattle.pmb_keys.proofs.Steps.{if_bind, if_defaulted, if_named, if_required, if_steps, if_tested, if_there}
 use Rattle.pmb_value.specs.declared.number_format.NumberFormat.TheVariants.{Linear11, Linear11Fixed, Word, Half, Vid}
 use Rattle.pmb_vid.specs.declared.table.VidTable.TheVariants.{Vr11, Vr12, Vr13, Imvp9, Amd625mv, Nvidia195mv}
 use Rattle.pmb_value.specs.declared.vout.VoutFormat.{VoutFormat}
 use Rattle.pmb_value.specs.declared.vout.VoutFormat.TheVariants.{Unsigned, Signed, Direct}
 use Rattle.pmb_json_objects.specs.Laws.{AreOfWords, IsOfWords}
 use Rattle.pmb_accepted.proofs.Numbers.{exponent_parts, if_coefficients, if_exponent}
-use Rattle.pmb_accepted.proofs.Steps.{if_bind, if_defaulted, if_named, if_required, if_steps, if_tested, if_there}
 
 -- A kind whose exponent or coefficients are in their ranges, and have 5 or 16 bits.
 pub record IsSound (kind : Kind) : Type 0 where

@@ -14,8 +14,8 @@ use Rattle.pmb_keys.specs.declared.fault.FaultKind.TheVariants as faults
 use Rattle.pmb_keys.specs.CommandRules.{byte_rule, coefficient, coefficients, exponent_value, is_exponent, is_offset}
 use Rattle.pmb_keys.specs.CommandRules.{is_scale, is_slope}
 use Rattle.pmb_keys.specs.Rules.{bind, or_fault, natural_within, typed}
+use Rattle.pmb_keys.proofs.Steps.{if_bind, if_required, if_steps, if_tested}
 use Rattle.pmb_json_objects.specs.Laws.{AreOfWords}
-use Rattle.pmb_accepted.proofs.Steps.{if_bind, if_required, if_steps, if_tested}
 
 -- ---- natural numbers
 

@@ -1,6 +1,7 @@
 -- What an accepted bus is.
 use Rattle.std.specs.Prelude.{◌≡◌, ◌≢◌, ℕ, suc, ◌<◌, ◌≤◌, true, false, IfSome, Option, Some, None, List, [], ◌∷◌, length, map}
 use Rattle.std.specs.List.{AllByRecursion, IsDistinct}
+use Rattle.std.specs.Option.{is_some}
 use Rattle.std.specs.Str.{bytes_eq}
 use Rattle.pmb_value.specs.NumberFormat.{IsFormat}
 use Rattle.pmb_command.specs.declared.entry.Kind.{Kind}
@@ -12,7 +13,7 @@ use Rattle.pmb_command.specs.Fitting.{is_number, kind_fits, reads_data, register
 use Rattle.pmb_command.specs.Names.{IsDeviceName, IsNameOf, IsUnit, is_name}
 use Rattle.pmb_command.specs.Parts.{CommandParts, DeviceParts, HaveOwnAddresses, HaveOwnCodes, InitialParts, Same, Each}
 use Rattle.pmb_command.specs.Parts.{NamedBit}
-use Rattle.pmb_command.specs.Parts.{VidParts, OfPages, OfTypes, all_same, command_with, has_one_mode}
+use Rattle.pmb_command.specs.Parts.{VidParts, OfPages, OfTypes, all_same, command_with, device_with, has_one_mode}
 use Rattle.pmb_command.specs.Protection.{begins_protected, can_protect}
 
 -- An address that a device may have (SMBus 3.0 appendix C): 08h to 77h, and not 0ch, the Alert
@@ -142,8 +143,14 @@ pub record IsDevice (d : DeviceParts) : Type 0 where
   pub protection : d.protect ≡ true → can_protect (command_with 0x10 d.commands) ≡ true
   pub first_protection : d.protect ≡ true → begins_protected (command_with 0x10 d.commands) ≡ true
 
+-- Each of these addresses is that of a device of the bus.
+abbrev pub AreOfDevices : List DeviceParts → List ℕ → Type 0
+AreOfDevices bus addresses = AllByRecursion (λ address. is_some (device_with address bus) ≡ true) addresses
+
 -- A bus that a profile may describe.
 pub record IsBus (bus : List DeviceParts) : Type 0 where
   pub few : length bus ≤ 64
   pub own_addresses : HaveOwnAddresses bus
   pub devices : AllByRecursion IsDevice bus
+  -- where a device takes what is written at another address, that is a device's too
+  pub also : AllByRecursion (λ d. AreOfDevices bus d.also) bus

@@ -6,6 +6,7 @@ pub mod Names
 pub mod Fitting
 pub mod Wire
 pub mod Parts
+pub mod Forms
 pub mod Protection
 pub mod PecMode
 pub mod Bus

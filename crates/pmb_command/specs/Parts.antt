@@ -41,7 +41,8 @@ pub data VidParts : Type 0 where
 
 -- a device of a bus; `name` where the profile gives one, `modes` is VOUT_MODE of each page at first,
 -- from page 0 on, `vid` are the tables of VID, and `phases` is how many phases it has, where the profile
--- tells them; `protect` says whether it keeps to WRITE_PROTECT
+-- tells them; `protect` says whether it keeps to WRITE_PROTECT, and `also` are the other addresses at which
+-- it takes what is written, ascending
 pub record DeviceParts : Type 0 where
   pub address : ℕ
   pub name : Option (List ℕ)
@@ -52,6 +53,7 @@ pub record DeviceParts : Type 0 where
   pub vid : Option VidParts
   pub phases : Option ℕ
   pub protect : Bool
+  pub also : List ℕ
   pub commands : List CommandParts
 
 -- the command with a code

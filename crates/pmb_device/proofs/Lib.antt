@@ -9,6 +9,8 @@ pub mod Requests
 pub mod Writing
 pub mod Addresses
 pub mod ReadAddresses
+pub mod FirstLeg
 pub mod Outcomes
+pub mod TookWrites
 pub mod TakenWrites
 pub mod Stopping

@@ -101,7 +101,7 @@ module _ (device : DeviceParts) (state : DeviceState) where
     pub acts : (bytes : List ℕ) → k.own ≡ true → k.refused ≡ false → k.read ≡ false → k.noted ≡ None
         → k.leg.device ≡ device → k.leg.bytes ≡ bytes → Acts device bytes state after
 
-  none_noted_unread : (noted : Option CmlBit) (before : List Leg) (bytes : List ℕ) (behind : List Leg)
+  pub none_noted_unread : (noted : Option CmlBit) (before : List Leg) (bytes : List ℕ) (behind : List Leg)
       → some_is_to (read_address device.address) behind ≡ false
       → Notes device state noted before bytes behind → noted ≡ None
   none_noted_unread noted before bytes behind unread (answers has is) = cc (sym unread ∙ head_is_some _ behind has.read)

@@ -3,13 +3,17 @@
 -- `StandsIn exchange device state legs` says that an exchange was made for this device and given
 -- the signals of these legs since the last STOP, and that the device's state was this one all
 -- along.
+-- `KeepsWrite exchange device legs` says that an exchange keeps the bytes of a complete write, which the
+-- device took in these legs.
 -- `IsAskedIn exchange device state legs byte body` says that after those legs came this byte too,
 -- and that the device's registers have to answer this body. What they say of the fields is in
 -- `machine`, and nothing here needs it to be understood.
-use Rattle.std.specs.Prelude.{◌≡◌, ℕ, ◌<◌, ◌≤◌, ◌⊎◌, Some, List, [], ◌∷◌, length}
+use Rattle.std.specs.Prelude.{◌≡◌, ℕ, ◌<◌, ◌≤◌, ◌⊎◌, Option, Some, None, List, [], ◌∷◌, length}
 use Rattle.pmb_command.specs.declared.form.Form.{Form}
 use Rattle.pmb_command.specs.Parts.{DeviceParts}
+use Rattle.pmb_leg.specs.declared.content.WriteContent.{WriteContent}
 use Rattle.pmb_transaction.specs.Body.{forms}
+use Rattle.pmb_transaction.specs.Transaction.{PartData}
 use Rattle.pmb_command.specs.Wire.{Fits}
 use Rattle.pmb_registers.specs.State.{DeviceState}
 use Rattle.pmb_registers.specs.Answer.{all_pages}
@@ -22,8 +26,9 @@ use Rattle.pmb_device.specs.declared.device_packet.Heard.TheVariants as heard
 use Rattle.pmb_device.specs.declared.device_packet.Effect.{Effect}
 use Rattle.pmb_device.specs.declared.device_packet.Effect.TheVariants.{Nothing, Write, Note}
 use Rattle.pmb_device.specs.Legs.{Legs, with_signal}
+use Rattle.pmb_device.specs.Ends.{Took}
 use Rattle.pmb_device.specs.Rules.{Answers}
-pub use Rattle.pmb_device.specs.machine.Standing.{StandsIn, IsAskedIn}
+pub use Rattle.pmb_device.specs.machine.Standing.{StandsIn, IsAskedIn, KeepsWrite}
 
 -- What one byte more comes to: the device answers it, or its registers have to be asked.
 abbrev pub Hears : DeviceParts → DeviceState → Legs → ℕ → Heard → DevicePacket → Type 0
@@ -59,3 +64,20 @@ abbrev pub HasFewBytes : Effect → Type 0
 HasFewBytes Nothing = Unit {0}
 HasFewBytes (Write code bytes) = length bytes.now ≤ 255
 HasFewBytes (Note bit) = Unit {0}
+
+-- ---- the write that was taken
+
+-- A packet's outcome is a write exactly if the device took a complete write, and then its bytes are kept.
+abbrev pub TellsWrite : DevicePacket → DeviceParts → Legs → Effect → Type 0
+TellsWrite exchange device legs Nothing = Took device legs None
+TellsWrite exchange device legs (Write code bytes) = KeepsWrite exchange device legs
+TellsWrite exchange device legs (Note bit) = Took device legs None
+
+-- what was written to a device, as a part
+abbrev pub part_of : DeviceParts → WriteContent → PartData
+part_of device content =
+    record { addr = device.address; code = content.code; bytes = content.bytes.now; pec = content.pec }
+
+abbrev pub written_part : DeviceParts → Option WriteContent → Option PartData
+written_part device None = None
+written_part device (Some content) = Some (part_of device content)

@@ -1,9 +1,10 @@
--- What STOP does to a simulated device. Its registers and its page change at STOP alone, by its own
--- legs of the packet: this project's own rule, for which PMBus Part I 1.3 section 5.2.3 asks in
--- groups.
-use Rattle.std.specs.Prelude.{◌≡◌, ℕ, Bool, true, false, List, [], ◌∷◌, ◌++◌}
+-- What STOP does to a simulated device by its own legs of the packet. Its registers and its page change
+-- at STOP alone: this project's own rule, for which PMBus Part I 1.3 section 5.2.3 asks in groups. What
+-- it takes after that, of what was written at other addresses, is of the bus (`Stops` of `pmb_devices`).
+use Rattle.std.specs.Prelude.{◌≡◌, ℕ, Bool, true, false, Option, Some, None, List, [], ◌∷◌, ◌++◌}
 use Rattle.pmb_command.specs.Parts.{DeviceParts}
 use Rattle.pmb_bus.specs.Address.{write_address, read_address}
+use Rattle.pmb_transaction.specs.Transaction.{PartData}
 use Rattle.pmb_transaction.specs.Body.{WriteBody, IsWriteBody, IsRequest}
 use Rattle.pmb_transaction.specs.Reason.{Whether}
 use Rattle.pmb_registers.specs.State.{DeviceState}
@@ -75,3 +76,24 @@ module _ (device : DeviceParts) where
   abbrev pub Ends : Legs → DeviceState → DeviceState → Type 0
   Ends Outside before after = after ≡ before
   Ends (Inside earlier leg) before after = LegsEnd (earlier ++ leg ∷ []) before after
+
+  -- ---- the write that it took
+
+  -- A complete write that the device took: the bytes of its own leg are the write's body, it took all of
+  -- them, and its address for reading does not follow in the packet.
+  pub record TookWrite (legs : List Leg) (part : PartData) : Type 0 where
+    pub to_device : part.addr ≡ device.address
+    pub bytes : List ℕ
+    pub own : OwnLeg legs bytes
+    pub taken : TakesAll device (leg_place own.earlier) [] bytes
+    pub unread : some_is_to (read_address device.address) own.behind ≡ false
+    pub body : WriteBody device part.code part.bytes part.pec bytes
+
+  abbrev pub TookPart : Legs → PartData → Type 0
+  TookPart Outside part = ⊥
+  TookPart (Inside earlier leg) part = TookWrite (earlier ++ leg ∷ []) part
+
+  -- What the device took in the legs of a packet: this complete write, or none.
+  abbrev pub Took : Legs → Option PartData → Type 0
+  Took legs None = (part : PartData) → TookPart legs part → ⊥
+  Took legs (Some part) = TookPart legs part

@@ -2,17 +2,21 @@
 //!
 //! Its rows: `tests_devices`, `src/devices/calls.rt`, `src/devices/compared.rt`.
 
-ghost use Rattle.std.specs.Prelude.{◌≡◌, ℕ, List, IfOk, option_map};
+ghost use Rattle.std.specs.Prelude.{◌≡◌, ◌≤◌, ℕ, List, IfOk, IfSome, length, option_map};
 ghost use Rattle.pmb_command.specs.Parts.{DeviceParts};
+ghost use Rattle.pmb_registers.specs.Apply.{after_other};
 ghost use Rattle.pmb_registers.specs.State.{DeviceState, first_state, register};
 ghost use Rattle.pmb_device.specs.declared.signal.HostSignal.TheVariants.{Byte, Stop};
 ghost use Rattle.pmb_device.specs.Legs.{Legs, Outside, with_signal};
 ghost use Rattle.pmb_device.specs.Rules.{Answers};
-ghost use Rattle.pmb_device.specs.DevicePacket.{IsAskedIn};
-ghost use Rattle.pmb_device.specs.Device.{DeviceStanding, DeviceStandsAt, Leads, Moves};
+ghost use Rattle.pmb_device.specs.Ends.{Took};
+ghost use Rattle.pmb_device.specs.DevicePacket.{IsAskedIn, written_part};
+ghost use Rattle.pmb_device.specs.Device.{DeviceStanding, DeviceStandsAt, Leads, Moves, Remembers};
+ghost use Rattle.pmb_device.specs.machine.Device.{Acted};
 
 use crate::device_packet::{DevicePacket, Effect, Heard};
 use crate::signal::{DeviceSignal, HostSignal};
+use pmb_leg::WriteContent;
 use pmb_registers::Registers;
 use pmb_table::DeviceProfile;
 use std::alloc::{AllocError, Global};
@@ -22,6 +26,8 @@ use std::alloc::{AllocError, Global};
 pub struct Device<'p> {
     registers: Registers<'p>,
     exchange: DevicePacket<'p>,
+    /// Whether it took a complete write in the packet that ended with the last STOP.
+    wrote: bool,
 }
 
 impl<'p> Device<'p> {
@@ -34,7 +40,15 @@ impl<'p> Device<'p> {
         Ok(Device {
             registers,
             exchange: DevicePacket::new(device),
+            wrote: false,
         })
+    }
+
+    /// The device's profile.
+    pub fn profile(&self) -> &'p DeviceProfile
+        ensures { (standing : DeviceStanding) → DeviceStandsAt self.now standing → result.now ≡ standing.device }
+    {
+        self.registers.device()
     }
 
     /// The device's address, seven bits.
@@ -122,11 +136,51 @@ impl<'p> Device<'p> {
     fn stop(&mut self)
         ensures { (standing : DeviceStanding) → DeviceStandsAt self.old standing → Leads standing Stop self.new }
     {
-        match self.exchange.outcome() {
-            Effect::Nothing => {}
-            Effect::Write { code, bytes } => self.registers.write(code, bytes),
-            Effect::Note(bit) => self.registers.note(bit),
-        }
+        self.act();
         self.exchange.end();
+    }
+
+    /// Does it, and keeps whether it is a complete write.
+    fn act(&mut self)
+        ensures { (standing : DeviceStanding) → DeviceStandsAt self.old standing → Acted standing self.new }
+    {
+        match self.exchange.outcome() {
+            Effect::Nothing => self.wrote = false,
+            Effect::Write { code, bytes } => {
+                self.registers.write(code, bytes);
+                self.wrote = true;
+            }
+            Effect::Note(bit) => {
+                self.registers.note(bit);
+                self.wrote = false;
+            }
+        }
+    }
+
+    /// The complete write that the device took in the packet that ended with the last signal, a STOP.
+    pub fn written(&self) -> Option<WriteContent<'_>>
+        ensures took { (device : DeviceParts) (legs : Legs) → Remembers self.now device legs
+            → Took device legs (written_part device result) }
+        ensures few { IfSome result (λ content. length content.bytes.now ≤ 255) }
+    {
+        if self.wrote {
+            self.exchange.kept()
+        } else {
+            None
+        }
+    }
+
+    /// Takes, directly after a STOP, a complete write that came to another address of its part: the code
+    /// and up to 255 bytes of data. It acts as one at the device's own address, if the device has such a
+    /// write, and else does nothing.
+    pub fn take(&mut self, code: u8, bytes: &[u8])
+        requires { length bytes.now ≤ 255 }
+        ensures stands { (device : DeviceParts) (state : DeviceState)
+            → DeviceStandsAt self.old (record { device = device; state = state; legs = Outside })
+            → DeviceStandsAt self.new (record { device = device; state = after_other device code bytes.now state; legs = Outside }) }
+        ensures remembers { (device : DeviceParts) (legs : Legs) → Remembers self.old device legs
+            → Remembers self.new device legs }
+    {
+        self.registers.write_other(code, bytes);
     }
 }

@@ -8,7 +8,7 @@
 //!
 //! Its rows: `tests_devices`, `src/devices/calls.rt`, `sessions.rt`, `random.rt`.
 
-ghost use Rattle.std.specs.Prelude.{◌≡◌, ◌≢◌, ◌≤◌, ◌↔◌, ◌∷◌, [], ◌++◌, ℕ, List, IsTrue, Ok, Err, Some, None, length, false, true};
+ghost use Rattle.std.specs.Prelude.{◌≡◌, ◌≢◌, ◌≤◌, ◌↔◌, ◌∷◌, [], ◌++◌, ℕ, List, IsTrue, Ok, Err, Some, None, IfSome, length, false, true};
 ghost use Rattle.pmb_command.specs.Parts.{DeviceParts};
 ghost use Rattle.pmb_bus.specs.Address.{write_address, read_address};
 ghost use Rattle.pmb_transaction.specs.Reason.{Whether};
@@ -19,14 +19,14 @@ ghost use Rattle.pmb_device.specs.declared.signal.HostSignal.TheVariants.{Start,
 ghost use Rattle.pmb_device.specs.declared.signal.DeviceSignal.TheVariants as answers;
 ghost use Rattle.pmb_device.specs.Legs.{Legs, Outside, with_signal};
 ghost use Rattle.pmb_device.specs.Rules.{Answers, GoesOn, IsPageValue, TakesByte};
-ghost use Rattle.pmb_device.specs.Ends.{Ends};
-ghost use Rattle.pmb_device.specs.DevicePacket.{HasFewBytes, Hears, IsAskedIn, IsTakenOutcome, StandsIn, after_outcome};
+ghost use Rattle.pmb_device.specs.Ends.{Ends, Took};
+ghost use Rattle.pmb_device.specs.DevicePacket.{HasFewBytes, Hears, IsAskedIn, IsTakenOutcome, KeepsWrite, StandsIn, TellsWrite, after_outcome, written_part};
 ghost use Rattle.pmb_device.specs.machine.Standing.{IsAskable, is_own_first};
 
 use crate::reply::put_reply;
 use crate::signal::DeviceSignal;
 use arrayvec::ArrayVec;
-use pmb_leg::{LegPlace, WrittenLeg};
+use pmb_leg::{LegPlace, WriteContent, WrittenLeg};
 use pmb_registers::CmlBit;
 use pmb_table::DeviceProfile;
 use pmb_table::laws::accepted_device;
@@ -380,6 +380,8 @@ impl<'p> DevicePacket<'p> {
         ensures taken { (device : DeviceParts) (state : DeviceState) (legs : Legs) → StandsIn self.now device state legs
             → IsTakenOutcome device result }
         ensures few { HasFewBytes result }
+        ensures tells { (device : DeviceParts) (state : DeviceState) (legs : Legs) → StandsIn self.now device state legs
+            → TellsWrite self.now device legs result }
     {
         if let LegPhase::Outside = self.phase {
             return Effect::Nothing;
@@ -402,11 +404,22 @@ impl<'p> DevicePacket<'p> {
         }
     }
 
+    /// The complete write whose bytes are kept: those of the device's own leg, up to its next one.
+    pub fn kept(&self) -> Option<WriteContent<'_>>
+        ensures took { (device : DeviceParts) (legs : Legs) → KeepsWrite self.now device legs
+            → Took device legs (written_part device result) }
+        ensures few { IfSome result (λ content. length content.bytes.now ≤ 255) }
+    {
+        self.leg.says()
+    }
+
     /// Ends the packet.
     #[inline]
     pub fn end(&mut self)
-        ensures { (device : DeviceParts) (state new_state : DeviceState) (legs : Legs) → StandsIn self.old device state legs
+        ensures ended { (device : DeviceParts) (state new_state : DeviceState) (legs : Legs) → StandsIn self.old device state legs
             → StandsIn self.new device new_state Outside }
+        ensures keeps { (device : DeviceParts) (legs : Legs) → KeepsWrite self.old device legs
+            → KeepsWrite self.new device legs }
     {
         self.phase = LegPhase::Outside;
     }

@@ -1,6 +1,7 @@
 -- A bus gives one answer to a signal at most, and STOP leads its devices to one list of states at
 -- most. For the laws `one_bus_answer` and `buses_go_alike`. An answer that is not silence is a
--- member's, and that member answers in one way (`loud_is`).
+-- member's, and that member answers in one way (`loud_is`). What was written at an address is one thing, so
+-- what a device takes there leads to one state (`one_taken`, in Taken of `pmb_devices`).
 use Rattle.std.proofs.Common.{◌≡◌, ◌≢◌, inl, inr, List, [], ◌∷◌, ◌++◌, map, refl, sym, ap, subst, ◌∙◌}
 use Rattle.std.specs.List.{AllByRecursion}
 use Rattle.std.proofs.lemmas.List.Elements.{All-contains, All-from_recursion}
@@ -16,6 +17,8 @@ use Rattle.pmb_devices.specs.declared.bus.Bus.{Bus}
 use Rattle.pmb_devices.specs.Bus.{AnswersOrSilent, BusAnswers, legs_after}
 use Rattle.pmb_devices.specs.Runs.{AllEnd}
 use Rattle.pmb_devices.specs.Signal.{BusLeads, BusStanding, BusStandsAt, BusTakes, behind}
+use Rattle.pmb_devices.specs.Stops.{EachEnds, EndsOn, TakesEach}
+use Rattle.pmb_devices.proofs.Taken.{one_taken}
 use Rattle.pmb_device_laws.specs.Calls.{StandAlike}
 use Rattle.pmb_device_laws.proofs.Alike.{MoveAlike}
 use Rattle.pmb_device_laws.proofs.OneAnswer.{one_answer}
@@ -61,23 +64,35 @@ module _ (members : List InState) (legs : Legs) (signal : HostSignal) (bus : IsB
 
 -- ---- at STOP
 
--- each device goes to one state
-pub one_bus_end : (legs : Legs) (members after others : List InState) → AllEnd legs members after
-    → AllEnd legs members others → after ≡ others
-one_bus_end legs [] [] [] a b = refl
-one_bus_end legs [] [] (other ∷ others) a b = absurd b
-one_bus_end legs [] (new ∷ after) others a b = absurd a
-one_bus_end legs (member ∷ members) [] others a b = absurd a
-one_bus_end legs (member ∷ members) (new ∷ after) [] a b = absurd b
-one_bus_end legs (member ∷ members) (new ∷ after) (other ∷ others) a b =
+-- a device goes to one state on a bus: by its own leg, and by what was written at its other addresses
+one_end_on : (bus : List DeviceParts) (legs : Legs) (device : DeviceParts) (before after other : DeviceState)
+    → EndsOn bus legs device before after → EndsOn bus legs device before other → after ≡ other
+one_end_on bus legs device before after other a b =
+    let between_is : b.between ≡ a.between = one_end device before b.between a.between legs b.own a.own in
+    one_taken bus legs device device.also a.between after other a.others
+    (subst (λ (state : DeviceState). TakesEach bus legs device device.also state other) between_is b.others)
+
+-- each device does
+one_end_each : (bus : List DeviceParts) (legs : Legs) (members after others : List InState)
+    → EachEnds bus legs members after → EachEnds bus legs members others → after ≡ others
+one_end_each bus legs [] [] [] a b = refl
+one_end_each bus legs [] [] (other ∷ others) a b = absurd b
+one_end_each bus legs [] (new ∷ after) others a b = absurd a
+one_end_each bus legs (member ∷ members) [] others a b = absurd a
+one_end_each bus legs (member ∷ members) (new ∷ after) [] a b = absurd b
+one_end_each bus legs (member ∷ members) (new ∷ after) (other ∷ others) a b =
     let state_is : new.state ≡ other.state =
-    one_end member.device member.state new.state other.state legs a.1 b.1 in
+    one_end_on bus legs member.device member.state new.state other.state a.1 b.1 in
     let device_is : new.device ≡ other.device = a.0 ∙ sym b.0 in
     let here : new ≡ other =
     ap (λ (device : DeviceParts). record { device = device; state = new.state }) device_is
     ∙ ap (λ (state : DeviceState). record { device = other.device; state = state }) state_is in
-    let rest : after ≡ others = one_bus_end legs members after others a.2 b.2 in
+    let rest : after ≡ others = one_end_each bus legs members after others a.2 b.2 in
     cc (here, rest)
+
+pub one_bus_end : (legs : Legs) (members after others : List InState) → AllEnd legs members after
+    → AllEnd legs members others → after ≡ others
+one_bus_end legs members after others a b = one_end_each (map (λ m. m.device) members) legs members after others a b
 
 -- ---- a call
 

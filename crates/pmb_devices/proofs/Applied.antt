@@ -2,9 +2,9 @@
 -- member what the transaction makes of it. For `Bus::new`, `Bus::signal` and the laws
 -- `transactions_are_applied`, `transactions_are_applied_in_turn`. From the events of each kind of
 -- packet the legs of the host's signals are known; in them a member's own leg, or none, says what
--- STOP does.
-use Rattle.std.proofs.Common.{◌≡◌, ℕ, inl, inr, Bool, true, false, Some, List, [], ◌∷◌, ◌++◌, map, nat_eq, refl, sym}
-use Rattle.std.proofs.Common.{ap, subst, ◌∙◌, append_assoc}
+-- STOP does; and what each member took there (`Written`) says what the others take of it.
+use Rattle.std.proofs.Common.{◌≡◌, ℕ, inl, inr, Bool, true, false, Some, None, List, [], ◌∷◌, ◌++◌, map, nat_eq, refl}
+use Rattle.std.proofs.Common.{sym, ap, subst, ◌∙◌, append_assoc}
 use Rattle.std.specs.List.{Contains, IsDistinct, list_any}
 use Rattle.std.proofs.lemmas.List.{append-nil}
 use Rattle.pmb_bus.specs.declared.event.Event.{Event}
@@ -19,22 +19,35 @@ use Rattle.pmb_transaction.specs.Packet.{WritePacket, addresses, answered}
 use Rattle.pmb_transaction.specs.Transaction.{CallData, PartData, ReadData, RefusedData, TransactionData, Write, Read}
 use Rattle.pmb_transaction.specs.Transaction.{Call, Refused, Alert, NoAlert}
 use Rattle.pmb_registers.specs.State.{DeviceState, InState}
-use Rattle.pmb_registers.specs.Apply.{after_parts, after_refusal, apply}
+use Rattle.pmb_registers.specs.Apply.{after_others, after_parts, after_refusal, apply, part_to}
 use Rattle.pmb_device.specs.Legs.{Leg, Legs, Outside, Inside}
-use Rattle.pmb_device.specs.Ends.{Ends, LegsEnd, no_leg}
+use Rattle.pmb_device.specs.Ends.{Ends, LegsEnd, Took, no_leg}
 use Rattle.pmb_devices.specs.Bus.{AreAnswered, AnsweredSignal, recorded_events, legs_after}
+use Rattle.pmb_devices.specs.Stops.{EndsOn, IsWrittenAt, TakesEach}
 use Rattle.pmb_devices.proofs.Devices.{found_is_own}
 use Rattle.pmb_devices.proofs.OwnLegs.{ends_without}
 use Rattle.pmb_devices.proofs.Parsing.{Stands, at_stop, closed}
 use Rattle.pmb_devices.proofs.ReadLegs.{alerts_change_nothing, answered_changes_nothing, no_alert_changes_nothing}
 use Rattle.pmb_devices.proofs.Refusals.{address_refused, byte_refused, read_refused}
+use Rattle.pmb_devices.proofs.Taken.{nothing_taken, parts_taken, written_so}
 use Rattle.pmb_devices.proofs.Writes.{PartLegs, by_test, others_leave, parts_act, parts_elsewhere, run_parts}
+use Rattle.pmb_devices.proofs.Written.{alert_took, answered_took, no_alert_took, part_is_known, refused_took}
+use Rattle.pmb_devices.proofs.Written.{write_took}
 
 -- after legs that ended, none is under way outside of a packet
 closed_ends : (device : DeviceParts) (legs : Legs) (before after : DeviceState) → Ends device legs before after
     → LegsEnd device (closed legs) before after
 closed_ends device Outside before after same = no_leg refl same
 closed_ends device (Inside earlier leg) before after ends = ends
+
+-- what a transaction makes of a state by the device's own leg
+abbrev pub after_own : DeviceParts → TransactionData → DeviceState → DeviceState
+after_own device (Write parts) state = after_parts device parts state
+after_own device (Read t) state = state
+after_own device (Call t) state = state
+after_own device (Refused t) state = after_refusal device t (after_parts device t.parts state)
+after_own device (Alert t) state = state
+after_own device NoAlert state = state
 
 module _ (profile : List DeviceParts) (members : List InState) (member : InState) (in_bus : Contains members member)
     (own : (found : DeviceParts) → device_with member.device.address profile ≡ Some found → found ≡ member.device)
@@ -151,10 +164,10 @@ module _ (profile : List DeviceParts) (members : List InState) (member : InState
 
   -- ---- each variant
 
-  -- What the transaction makes of the member is what STOP does.
+  -- What the transaction makes of the member, by its own leg, is what STOP does.
   pub packet_applied : (t : TransactionData) (events : List Event) → Packet profile t events
       → Stands members final Outside events
-      → after ≡ apply member.device t member.state
+      → after ≡ after_own member.device t member.state
   packet_applied (Write parts) events packet stands = write_applied parts events packet stands
   packet_applied (Read t) events packet stands = read_applied t events packet stands
   packet_applied (Call t) events packet stands = call_applied t events packet stands
@@ -167,15 +180,103 @@ module _ (profile : List DeviceParts) (members : List InState) (member : InState
       no_alert_changes_nothing members member in_bus final after (subst (Stands members final Outside) packet stands)
       ends
 
+-- ---- what was written at other addresses
+
+module _ (profile : List DeviceParts) (members : List InState) (bus : IsBus profile)
+    (is : map (λ m. m.device) members ≡ profile) (final : Legs) where
+  -- the device with a member's address is its own
+  own_of : (member : InState) → Contains members member → (found : DeviceParts)
+      → device_with member.device.address profile ≡ Some found → found ≡ member.device
+  own_of member in_bus = found_is_own profile members member bus is in_bus
+
+  -- What was written at each address is the first part to it,
+  parts_written : (parts : List PartData) (legs : List Event) → PartsEvents profile parts legs
+      → ((member : InState) → Contains members member
+      → Took member.device final (part_to member.device.address parts))
+      → (address : ℕ) → IsWrittenAt profile final address (part_to address parts)
+  parts_written parts legs each took address =
+      written_so members final address (part_to address parts) profile is
+      (part_is_known profile address parts legs each)
+      (λ member inside here.
+      subst (λ (a : ℕ). Took member.device final (part_to a parts)) here (took member inside))
+
+  -- or nothing.
+  none_written : ((member : InState) → Contains members member → Took member.device final None)
+      → (address : ℕ) → IsWrittenAt profile final address None
+  none_written took address =
+      written_so members final address None profile is (λ nobody. refl) (λ member inside here. took member inside)
+
+  module _ (device : DeviceParts) (before between after : DeviceState)
+      (takes : TakesEach profile final device device.also between after) where
+    -- So a device takes the parts to its other addresses.
+    others_applied : (t : TransactionData) (events : List Event) → Packet profile t events
+        → Stands members final Outside events → between ≡ after_own device t before → after ≡ apply device t before
+    others_applied (Write parts) events packet stands own_is =
+        let ran = run_parts profile members final Outside parts packet.legs (wire.Stop ∷ []) packet.each
+        (subst (Stands members final Outside) packet.spelled stands) in
+        let legs_are : closed final ≡ ran.new =
+        ap closed (sym (at_stop members final ran.reached ran.stands)) ∙ ran.closed_are in
+        parts_taken profile final device parts
+        (parts_written parts packet.legs packet.each
+        (λ member inside. write_took profile members member inside (own_of member inside) final parts ran.new ran.each
+        packet.distinct legs_are))
+        device.also between after takes
+        ∙ ap (λ (state : DeviceState). after_others device device.also parts state) own_is
+    others_applied (Read t) events packet stands own_is =
+        nothing_taken profile final device
+        (none_written (λ member inside.
+        answered_took profile members member inside (own_of member inside) final t.addr (t.code ∷ [])
+        (form.wire packet.form t.reply) t.pec (subst (Stands members final Outside) packet.spelled stands)))
+        device.also between after takes
+        ∙ own_is
+    others_applied (Call t) events packet stands own_is =
+        nothing_taken profile final device
+        (none_written (λ member inside.
+        answered_took profile members member inside (own_of member inside) final t.addr
+        (t.code ∷ form.wire packet.form t.bytes) (form.wire packet.form t.reply) t.pec
+        (subst (Stands members final Outside) packet.spelled stands)))
+        device.also between after takes
+        ∙ own_is
+    others_applied (Refused t) events packet stands own_is =
+        let spelled : events ≡ packet.legs ++ (packet.last ++ wire.Stop ∷ []) =
+        packet.spelled ∙ append_assoc packet.legs packet.last (wire.Stop ∷ []) in
+        parts_taken profile final device t.parts
+        (parts_written t.parts packet.legs packet.each
+        (λ member inside. refused_took profile members member inside (own_of member inside) final t.parts t.addr t.sent
+        t.at_read packet.legs packet.last packet.each packet.distinct packet.refused
+        (subst (Stands members final Outside) spelled stands)))
+        device.also between after takes
+        ∙ ap (λ (state : DeviceState). after_others device device.also t.parts state) own_is
+    others_applied (Alert t) events packet stands own_is =
+        nothing_taken profile final device
+        (none_written (λ member inside.
+        alert_took profile members member inside (own_of member inside) final
+        (checked t.pec (read_address alert_address ∷ []) (t.byte ∷ []))
+        (subst (Stands members final Outside) packet.spelled stands)))
+        device.also between after takes
+        ∙ own_is
+    others_applied NoAlert events packet stands own_is =
+        nothing_taken profile final device
+        (none_written (λ member inside.
+        no_alert_took profile members member inside (own_of member inside) final
+        (subst (Stands members final Outside) packet stands)))
+        device.also between after takes
+        ∙ own_is
+
 -- Transactions are applied.
 pub transactions_are_applied : (profile : List DeviceParts) (members : List InState) (history : List AnsweredSignal)
     (t : TransactionData)
     (member : InState) (after : DeviceState) → IsBus profile → map (λ m. m.device) members ≡ profile
     → AreAnswered members Outside history
     → Packet profile t (recorded_events history ++ wire.Stop ∷ []) → Contains members member
-    → Ends member.device (legs_after Outside history) member.state after → after ≡ apply member.device t member.state
+    → EndsOn profile (legs_after Outside history) member.device member.state after
+    → after ≡ apply member.device t member.state
 transactions_are_applied profile members history t member after bus is answered packet in_bus ends =
     let final = legs_after Outside history in
-    packet_applied profile members member in_bus (found_is_own profile members member bus is in_bus) final after
-    (closed_ends member.device final member.state after ends) t (recorded_events history ++ wire.Stop ∷ []) packet
-    (record { more = history; answered = answered; spelled = refl; ends = refl })
+    let events = recorded_events history ++ wire.Stop ∷ [] in
+    let stands : Stands members final Outside events =
+    record { more = history; answered = answered; spelled = refl; ends = refl } in
+    others_applied profile members bus is final member.device member.state ends.between after ends.others t events
+    packet stands
+    (packet_applied profile members member in_bus (found_is_own profile members member bus is in_bus) final ends.between
+    (closed_ends member.device final member.state ends.between ends.own) t events packet stands)

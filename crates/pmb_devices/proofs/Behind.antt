@@ -1,7 +1,8 @@
 -- Where a bus stands after one signal more: each device where the signal leads it, and the answers
 -- with one more. For `Bus::device`, `Bus::signal` and `add_device`. A signal other than STOP goes
--- to the end of what came since the last STOP; STOP ends that stretch, and another one begins.
-use Rattle.std.proofs.Common.{subst, ◌≡◌, ◌≢◌, List, [], ◌∷◌, ◌++◌, map, refl, ap}
+-- to the end of what came since the last STOP; STOP ends that stretch, and another one begins. At STOP
+-- each device does what its own leg asks for (`all_end`), and then takes what others took (`both_end`).
+use Rattle.std.proofs.Common.{subst, ◌≡◌, ◌≢◌, List, [], ◌∷◌, ◌++◌, refl, ap, ◌∙◌}
 use Rattle.pmb_command.specs.Parts.{DeviceParts}
 use Rattle.pmb_registers.specs.State.{InState}
 use Rattle.pmb_device.specs.declared.signal.HostSignal.{HostSignal}
@@ -10,10 +11,13 @@ use Rattle.pmb_device.specs.declared.signal.DeviceSignal.{DeviceSignal}
 use Rattle.pmb_device.specs.declared.device.Device.{Device}
 use Rattle.pmb_device.specs.Legs.{Legs, Outside, with_signal}
 use Rattle.pmb_device.specs.Device.{DeviceStanding, DeviceStandsAt, Leads}
+use Rattle.pmb_device.specs.Ends.{Ends}
 use Rattle.pmb_devices.specs.Bus.{AreAnswered, BusAnswers, AnsweredSignal, legs_after}
 use Rattle.pmb_devices.specs.Runs.{AllEnd, Runs}
+use Rattle.pmb_devices.specs.Stops.{EachEnds, TakesEach}
 use Rattle.pmb_devices.specs.machine.Standing.{AllStand}
 use Rattle.pmb_devices.specs.machine.Hands.{AllMoved}
+use Rattle.pmb_devices.specs.machine.Others.{AllEnded, AllTake, devices_of}
 
 -- ---- what came since the last STOP
 
@@ -62,20 +66,28 @@ all_stand_behind legs signal other (d ∷ devices) (member ∷ members) (result 
   all_stand_behind legs signal other devices members results all.1,
 )
 
--- What STOP makes of all devices.
+-- each device does what its own leg asks for
+abbrev pub EachActs : Legs → List InState → List InState → Type 0
+EachActs legs [] [] = Unit {0}
+EachActs legs [] (new ∷ news) = ⊥
+EachActs legs (old ∷ olds) [] = ⊥
+EachActs legs (old ∷ olds) (new ∷ news) =
+    (new.device ≡ old.device) × Ends old.device legs old.state new.state × EachActs legs olds news
+
+-- What STOP makes of all devices, before they take what was written at other addresses.
 pub record Ended (legs : Legs) (devices : List Device) (members : List InState) : Type 0 where
   -- the members with their new states
   pub news : List InState
-  -- each became what STOP makes of it,
-  pub ends : AllEnd legs members news
-  -- stands outside of a packet,
-  pub stand : AllStand Outside devices news
+  -- each became what its own leg makes of it,
+  pub acts : EachActs legs members news
+  -- stands outside of a packet, and knows what it took,
+  pub ended : AllEnded legs devices news
   -- and its device is the same
-  pub same : map (λ m. m.device) news ≡ map (λ m. m.device) members
+  pub same : devices_of news ≡ devices_of members
 
 pub all_end : (legs : Legs) (devices : List Device) (members : List InState) (results : List DeviceSignal)
     → AllMoved legs Stop devices members results → Ended legs devices members
-all_end legs [] [] [] all = record { news = []; ends = tt; stand = tt; same = refl }
+all_end legs [] [] [] all = record { news = []; acts = tt; ended = tt; same = refl }
 all_end legs [] [] (result ∷ results) all = absurd all
 all_end legs [] (member ∷ members) results all = absurd all
 all_end legs (d ∷ devices) [] results all = absurd all
@@ -85,10 +97,28 @@ all_end legs (d ∷ devices) (member ∷ members) (result ∷ results) all =
     let more = all_end legs devices members results all.1 in
     record {
       news = record { device = member.device; state = leads.0 } ∷ more.news;
-      ends = (refl, leads.1, more.ends);
-      stand = (leads.2, more.stand);
+      acts = (refl, leads.1, more.acts);
+      ended = (record { stands = leads.2; remembers = leads.3 }, more.ended);
       same = ap (λ (ds : List DeviceParts). member.device ∷ ds) more.same;
     }
+
+-- After that they take it: each goes where STOP leads it on the bus.
+pub both_end : (bus : List DeviceParts) (legs : Legs) (olds mids news : List InState) → EachActs legs olds mids
+    → AllTake bus legs mids news → EachEnds bus legs olds news
+both_end bus legs [] [] [] acts takes = tt
+both_end bus legs [] [] (new ∷ news) acts takes = absurd takes
+both_end bus legs [] (mid ∷ mids) news acts takes = absurd acts
+both_end bus legs (old ∷ olds) [] news acts takes = absurd acts
+both_end bus legs (old ∷ olds) (mid ∷ mids) [] acts takes = absurd takes
+both_end bus legs (old ∷ olds) (mid ∷ mids) (new ∷ news) acts takes = (
+  takes.0 ∙ acts.0,
+  record {
+    between = mid.state;
+    own = acts.1;
+    others = subst (λ (d : DeviceParts). TakesEach bus legs d d.also mid.state new.state) acts.0 takes.1;
+  },
+  both_end bus legs olds mids news acts.2 takes.2,
+)
 
 -- ---- one device more
 

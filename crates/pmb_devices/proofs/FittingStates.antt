@@ -2,27 +2,31 @@
 -- as its form takes, and PAGE selects a page of the device, or all. For the laws `states_fit` and
 -- `replies_are_answers`. Each change of registers is one of lengths (`has_changed`); of the bytes
 -- that were taken a write has just that many bytes, and a value of PAGE that the device has.
-use Rattle.std.proofs.Common.{◌≡◌, ℕ, ◌<◌, ◌⊎◌, inl, inr, Bool, true, false, ◌&&◌, Option, Some, None, cond, is_some}
-use Rattle.std.proofs.Common.{List, [], ◌∷◌, ◌++◌, length, map, nat_eq, refl, sym, ap, subst, ◌∙◌, arith}
+use Rattle.std.proofs.Common.{◌≡◌, ℕ, ◌<◌, ◌⊎◌, inl, inr, Bool, true, false, not, ◌&&◌, ◌||◌, Option, Some, None}
+use Rattle.std.proofs.Common.{cond, is_some, List, [], ◌∷◌, ◌++◌, length, map, nat_eq, refl, sym, ap, subst, ◌∙◌, arith}
+use Rattle.std.specs.Prelude.{nat_lt}
 use Rattle.std.specs.Int.Bits.{bit_or}
 use Rattle.std.specs.List.{find}
-use Rattle.std.proofs.lemmas.Bool.{and_parts, eqb-true}
+use Rattle.std.proofs.lemmas.Bool.{and_parts, eq-eqb, eqb-true, leb-true, ltb-true, or_cases}
 use Rattle.std.proofs.lemmas.List.{length-map}
 use Rattle.std.proofs.lemmas.Option.{same_Some}
 use Rattle.pmb_bus.specs.Address.{read_address, write_address}
 use Rattle.pmb_command.specs.declared.form.Form.{Form}
-use Rattle.pmb_command.specs.declared.form.Form.TheVariants.{Zero, One}
+use Rattle.pmb_command.specs.declared.form.Form.TheVariants.{Zero, One, Two, Four, Eight, Block}
 use Rattle.pmb_command.specs.Bus.{IsDevice}
 use Rattle.pmb_command.specs.Fitting.{is_form, register_form, same_form}
 use Rattle.pmb_command.specs.Parts.{CommandParts, DeviceParts, command_with}
 use Rattle.pmb_command.specs.Wire.{Fits, wire}
 use Rattle.pmb_command.specs.Wire as form_of
 use Rattle.pmb_transaction.specs.Body.{WriteBody, checked, forms, shape_of}
+use Rattle.pmb_transaction.specs.Transaction.{PartData}
 use Rattle.pmb_registers.specs.declared.cml_bit.CmlBit.{CmlBit}
 use Rattle.pmb_registers.specs.Answer.{all_pages}
 use Rattle.pmb_registers.specs.declared.cml_bit.CmlBit.TheVariants.{BadValue}
-use Rattle.pmb_registers.specs.Apply.{after_enabled, after_write, bit_value, changed, cleared_bits, is_status, reaches}
-use Rattle.pmb_registers.specs.Apply.{selected_by, with_bit, with_noted}
+use Rattle.pmb_registers.specs.Apply.{after_at, after_enabled, after_other, after_write, bit_value, changed}
+use Rattle.pmb_command.specs.Forms.{has_write, is_own_page, takes_data}
+use Rattle.pmb_registers.specs.Apply.{cleared_bits, is_status, reaches, selected_by}
+use Rattle.pmb_registers.specs.Apply.{with_bit, with_noted}
 use Rattle.pmb_registers.specs.Protection.{is_enabled}
 use Rattle.pmb_registers.specs.State.{DeviceState, RegisterData, is_of_page}
 use Rattle.pmb_leg.specs.declared.place.LegPlace.{LegPlace}
@@ -32,6 +36,7 @@ use Rattle.pmb_device.specs.Ends.{Acts, Ends, LegsEnd, NotesAnswer, OwnLegEnds, 
 use Rattle.pmb_device.specs.Ends.{no_write, not_asked, own_leg, writes}
 use Rattle.pmb_device.proofs.Requests.{page_form}
 use Rattle.pmb_devices.specs.Replies.{IsState}
+use Rattle.pmb_devices.specs.Stops.{EndsOn, TakesEach}
 use Rattle.pmb_devices.proofs.Commands.{command_is, flip_zero, written_register}
 use Rattle.pmb_devices.proofs.FirstStates.{bytes_of, is_at}
 
@@ -86,6 +91,19 @@ cleared_length written [] = refl
 cleared_length [] (byte ∷ bytes) = refl
 cleared_length (mask ∷ masks) (byte ∷ bytes) = omega (arith, cleared_length masks bytes)
 
+-- ---- a write at another address
+
+-- data that a command takes are of the form in which it is written
+form_of_data : (o : Option Form) (n : ℕ) → takes_data o n ≡ true
+    → (form : Form) × (o ≡ Some form) × form_of.Takes form n
+form_of_data None n is = absurd (cc is)
+form_of_data (Some Zero) n is = (Zero, refl, eqb-true n 0 is)
+form_of_data (Some One) n is = (One, refl, eqb-true n 1 is)
+form_of_data (Some Two) n is = (Two, refl, eqb-true n 2 is)
+form_of_data (Some Four) n is = (Four, refl, eqb-true n 4 is)
+form_of_data (Some Eight) n is = (Eight, refl, eqb-true n 8 is)
+form_of_data (Some Block) n is = (Block, refl, leb-true n 255 is)
+
 -- ---- a write of PAGE
 
 -- one byte
@@ -99,6 +117,37 @@ starts_so : (with_pec : Bool) (front : List ℕ) (page : ℕ)
     → (rest : List ℕ) × (checked with_pec front (0x00 ∷ page ∷ []) ≡ 0x00 ∷ page ∷ rest)
 starts_so false front page = ([], refl)
 starts_so true front page = (_, refl)
+
+module _ (device : DeviceParts) (page : ℕ) where
+  -- What a write has that a device has: data of the form in which the command is written, and for PAGE a page of
+  -- the device, or all.
+  pub record HasWrite (code : ℕ) (content : List ℕ) : Type 0 where
+    pub form : Form
+    pub written : (forms device code).write ≡ Some form
+    pub fitting : form_of.Takes form (length content)
+    pub selects : code ≡ 0x00 → (selected_by page content < device.pages) ⊎ (selected_by page content ≡ all_pages)
+
+  own_page_selected : (content : List ℕ) → is_own_page device content ≡ true
+      → (selected_by page content < device.pages) ⊎ (selected_by page content ≡ all_pages)
+  own_page_selected [] is = absurd (cc is)
+  own_page_selected (own ∷ bytes) is =
+      elim (or_cases (nat_lt own device.pages) (nat_eq own all_pages) is) [
+        | inl within ↦ inl (ltb-true own device.pages within)
+        | inr all ↦ inr (eqb-true own all_pages all)
+      ]
+
+  pub has_write_so : (code : ℕ) (content : List ℕ) → has_write device code content ≡ true → HasWrite code content
+  has_write_so code content has =
+      let both = and_parts (takes_data (forms device code).write (length content))
+      (not (nat_eq code 0x00) || is_own_page device content) has in
+      let data_form = form_of_data (forms device code).write (length content) both.0 in
+      record {
+        form = data_form.0;
+        written = data_form.1;
+        fitting = data_form.2;
+        selects = λ zero. own_page_selected content
+            (ap (λ (b : Bool). not b || is_own_page device content) (sym (eq-eqb code 0x00 zero)) ∙ both.1);
+      }
 
 module _ (device : DeviceParts) where
   -- one of two states
@@ -154,59 +203,44 @@ module _ (device : DeviceParts) where
 
     -- ---- a write
 
-    module _ (accepted : IsDevice device) (code : ℕ) (content : List ℕ) (with_pec : Bool) (body : List ℕ)
-        (is : WriteBody device code content with_pec body) where
+    -- The value of PAGE that a write selects is a page of the device, or all.
+    abbrev SelectsPage : ℕ → List ℕ → Type 0
+    SelectsPage code content = code ≡ 0x00
+        → (selected_by before.page content < device.pages) ⊎ (selected_by before.page content ≡ all_pages)
+
+    module _ (accepted : IsDevice device) (code : ℕ) (content : List ℕ) (write : Form)
+        (written : (forms device code).write ≡ Some write) (fitting : form_of.Takes write (length content)) where
       -- the register of the code takes the data
-      data_taken : same_form is.form Zero ≡ false → (other : ℕ) (command : CommandParts) (form : Form)
+      data_taken : same_form write Zero ≡ false → (other : ℕ) (command : CommandParts) (form : Form)
           → command_with other device.commands ≡ Some command → register_form command.entry.shape ≡ Some form
           → nat_eq code other ≡ true
           → (bytes : List ℕ) → form_of.Takes form (length bytes) → form_of.Takes form (length content)
       data_taken some other command form known register same bytes taken =
           -- the write of this register's code
           let code_is : code ≡ other = eqb-true code other same in
-          let written : command.entry.shape.write ≡ Some is.form =
+          let here : command.entry.shape.write ≡ Some write =
           ap (λ (o : Option CommandParts). (shape_of o).write) (sym known) ∙ ap (λ (n : ℕ). (forms device n).write)
-          (sym code_is) ∙ is.written in
+          (sym code_is) ∙ written in
           -- it is written in the register's form, since both ways agree
           let agree = (command_is device accepted other command known).entry.fitting.one_form in
-          let form_is : form ≡ is.form = written_register command.entry.shape is.form form written some agree
-          register in
-          subst (λ (f : Form). form_of.Takes f (length content)) (sym form_is) is.fits.taken
+          let form_is : form ≡ write = written_register command.entry.shape write form here some agree register in
+          subst (λ (f : Form). form_of.Takes f (length content)) (sym form_is) fitting
 
       -- PAGE is written with one byte
-      page_one : code ≡ 0x00 → is.form ≡ One
-      page_one page = page_form device is.form accepted
-          (subst (λ (n : ℕ). (forms device n).write ≡ Some is.form) page is.written)
-
-      -- and that is a page of the device, or all
-      page_selected : (place : LegPlace) → TakesAll device place [] body → code ≡ 0x00
-          → (selected_by before.page content < device.pages) ⊎ (selected_by before.page content ≡ all_pages)
-      page_selected place taken page =
-          let one = page_one page in
-          let only = one_of content (subst (λ (f : Form). form_of.Takes f (length content)) one is.fits.taken) in
-          let front = write_address device.address ∷ [] in
-          let wired : wire is.form content ≡ only.0 ∷ [] = ap (λ (f : Form). wire f content) one ∙ only.1 in
-          let starts = starts_so with_pec front only.0 in
-          let split : body ≡ 0x00 ∷ only.0 ∷ starts.0 =
-          is.spelled ∙ ap (λ (n : ℕ). checked with_pec front (n ∷ wire is.form content)) page
-          ∙ ap (λ (bs : List ℕ). checked with_pec front (0x00 ∷ bs)) wired ∙ starts.1 in
-          let here : TakesAll device place [] (0x00 ∷ only.0 ∷ starts.0) =
-          subst (TakesAll device place []) split taken in
-          subst (λ (bs : List ℕ). (selected_by before.page bs < device.pages)
-          ⊎ (selected_by before.page bs ≡ all_pages)) (sym only.1)
-          (here.1.0.page refl)
+      page_one : code ≡ 0x00 → write ≡ One
+      page_one page = page_form device write accepted
+          (subst (λ (n : ℕ). (forms device n).write ≡ Some write) page written)
 
       -- What a complete write makes of the state fits, where it is enabled,
-      enabled_fits : (place : LegPlace) → TakesAll device place [] body
-          → IsState device (after_enabled device code content before)
-      enabled_fits place taken =
+      enabled_fits : SelectsPage code content → IsState device (after_enabled device code content before)
+      enabled_fits selects =
           -- PAGE, whose code is 00h: its value is selected, and its register holds it
           if_fits (nat_eq code 0x00) _ _
           (
           λ page.
           let zero : code ≡ 0x00 = eqb-true code 0x00 page in
-          let some : same_form is.form Zero ≡ false = ap (λ (f : Form). same_form f Zero) (page_one zero) in
-          changed_fits (selected_by before.page content) (page_selected place taken zero) (nat_eq code) (λ old. content)
+          let some : same_form write Zero ≡ false = ap (λ (f : Form). same_form f Zero) (page_one zero) in
+          changed_fits (selected_by before.page content) (selects zero) (nat_eq code) (λ old. content)
           (data_taken some)
           )
           (
@@ -220,8 +254,8 @@ module _ (device : DeviceParts) where
           if_fits (is_form Zero (forms device code).write) before _ (λ zero. fits)
           (
           λ form.
-          let some : same_form is.form Zero ≡ false =
-          flip_zero is.form (subst (λ (o : Option Form). is_form Zero o ≡ false) is.written form) in
+          let some : same_form write Zero ≡ false =
+          flip_zero write (subst (λ (o : Option Form). is_form Zero o ≡ false) written form) in
           -- a status register: bits are cleared
           if_fits (is_status device code) _ _ (λ status. kept_fits (nat_eq code) (cleared_bits content)
           (cleared_length content))
@@ -232,13 +266,43 @@ module _ (device : DeviceParts) where
           )
 
       -- and where it may be disabled: then a bit of STATUS_CML is set.
-      write_fits : (place : LegPlace) → TakesAll device place [] body
-          → IsState device (after_write device code content before)
-      write_fits place taken =
+      write_fits : SelectsPage code content → IsState device (after_write device code content before)
+      write_fits selects =
           if_fits (is_enabled device before code content) (after_enabled device code content before)
           (with_bit device BadValue before)
-          (λ enabled. enabled_fits place taken)
+          (λ enabled. enabled_fits selects)
           (λ disabled. bit_fits BadValue)
+
+    -- A page that the device took in its own leg is one of its pages, or all.
+    page_selected : IsDevice device → (code : ℕ) (content : List ℕ) (with_pec : Bool) (body : List ℕ)
+        → WriteBody device code content with_pec body
+        → (place : LegPlace) → TakesAll device place [] body → SelectsPage code content
+    page_selected accepted code content with_pec body is place taken page =
+        let one = page_one accepted code content is.form is.written is.fits.taken page in
+        let only = one_of content (subst (λ (f : Form). form_of.Takes f (length content)) one is.fits.taken) in
+        let front = write_address device.address ∷ [] in
+        let wired : wire is.form content ≡ only.0 ∷ [] = ap (λ (f : Form). wire f content) one ∙ only.1 in
+        let starts = starts_so with_pec front only.0 in
+        let split : body ≡ 0x00 ∷ only.0 ∷ starts.0 =
+        is.spelled ∙ ap (λ (n : ℕ). checked with_pec front (n ∷ wire is.form content)) page
+        ∙ ap (λ (bs : List ℕ). checked with_pec front (0x00 ∷ bs)) wired ∙ starts.1 in
+        let here : TakesAll device place [] (0x00 ∷ only.0 ∷ starts.0) =
+        subst (TakesAll device place []) split taken in
+        subst (λ (bs : List ℕ). (selected_by before.page bs < device.pages)
+        ⊎ (selected_by before.page bs ≡ all_pages)) (sym only.1)
+        (here.1.0.page refl)
+
+    -- So what came to another address, too, keeps a state fitting.
+    pub other_fits : IsDevice device → (code : ℕ) (content : List ℕ)
+        → IsState device (after_other device code content before)
+    other_fits accepted code content =
+        if_fits (has_write device code content) (after_write device code content before) before
+        (
+        λ has.
+        let such = has_write_so device before.page code content has in
+        write_fits accepted code content such.form such.written such.fitting such.selects
+        )
+        (λ none. fits)
 
     -- ---- STOP
 
@@ -247,7 +311,9 @@ module _ (device : DeviceParts) where
       acts_fit : (place : LegPlace) (bytes : List ℕ) → TakesAll device place [] bytes → Acts device bytes before after
           → IsState device after
       acts_fit place bytes taken (writes code content with_pec body same) =
-          subst (IsState device) (sym same) (write_fits accepted code content with_pec bytes body place taken)
+          subst (IsState device) (sym same)
+          (write_fits accepted code content body.form body.written body.fits.taken
+          (page_selected accepted code content with_pec bytes body place taken))
       acts_fit place bytes taken (no_write none same) = subst (IsState device) (sym same) fits
 
       -- a refusal to be read is noted, or nothing is
@@ -285,10 +351,34 @@ module _ (device : DeviceParts) where
       legs_fit legs (own_leg bytes own ends) = own_fits own.earlier bytes own.behind ends
       legs_fit legs (no_leg none same) = subst (IsState device) (sym same) fits
 
--- What STOP makes of a state that fits, fits.
-pub end_fits : (device : DeviceParts) (legs : Legs) (before after : DeviceState) → IsDevice device
+-- What its own leg makes of a state that fits, fits.
+end_fits : (device : DeviceParts) (legs : Legs) (before after : DeviceState) → IsDevice device
     → IsState device before
     → Ends device legs before after → IsState device after
 end_fits device Outside before after accepted fits same = subst (IsState device) (sym same) fits
 end_fits device (Inside earlier leg) before after accepted fits ends = legs_fit device before fits accepted after
     (earlier ++ leg ∷ []) ends
+
+-- So does what came to other addresses,
+at_fits : (device : DeviceParts) (accepted : IsDevice device) (address : ℕ) (written : Option PartData)
+    (before : DeviceState) → IsState device before → IsState device (after_at device address written before)
+at_fits device accepted address None before fits = fits
+at_fits device accepted address (Some part) before fits =
+    if_fits device (nat_eq address device.address) before (after_other device part.code part.bytes before)
+    (λ own. fits) (λ other. other_fits device before fits accepted part.code part.bytes)
+
+each_fits : (bus : List DeviceParts) (legs : Legs) (device : DeviceParts) (accepted : IsDevice device) (also : List ℕ)
+    (before after : DeviceState) → IsState device before → TakesEach bus legs device also before after
+    → IsState device after
+each_fits bus legs device accepted [] before after fits same = subst (IsState device) (sym same) fits
+each_fits bus legs device accepted (address ∷ also) before after fits takes =
+    each_fits bus legs device accepted also takes.0 after
+    (subst (IsState device) (sym takes.1.after_is) (at_fits device accepted address takes.1.written before fits))
+    takes.2
+
+-- and so what STOP makes of it on a bus.
+pub ends_fit : (bus : List DeviceParts) (device : DeviceParts) (legs : Legs) (before after : DeviceState)
+    → IsDevice device → IsState device before → EndsOn bus legs device before after → IsState device after
+ends_fit bus device legs before after accepted fits ends =
+    each_fits bus legs device accepted device.also ends.between after
+    (end_fits device legs before ends.between accepted fits ends.own) ends.others

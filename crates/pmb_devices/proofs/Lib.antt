@@ -5,6 +5,9 @@ pub mod Devices
 pub mod Writes
 pub mod ReadLegs
 pub mod Refusals
+pub mod Taken
+pub mod Written
+pub mod OtherWrites
 pub mod Applied
 pub mod Stopped
 pub mod Runs

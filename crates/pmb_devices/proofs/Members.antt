@@ -25,9 +25,9 @@ one_taken [] i d is = cc is
 one_taken (x ∷ profile) zero d is = ap (λ (p : DeviceParts). p ∷ []) (cc is)
 one_taken (x ∷ profile) (suc i) d is = ap (λ (ds : List DeviceParts). x ∷ ds) (one_taken profile i d is)
 
-one_more : (profile : List DeviceParts) (i : ℕ) (d : DeviceParts) → slice_get profile i ≡ Some d
+pub one_more_of : (profile : List DeviceParts) (i : ℕ) (d : DeviceParts) → slice_get profile i ≡ Some d
     → take (i + 1) profile ≡ take i profile ++ d ∷ []
-one_more profile i d is = rw add-one (one_taken profile i d is)
+one_more_of profile i d is = rw add-one (one_taken profile i d is)
 
 -- a place within has a device
 nothing_there : (profile : List DeviceParts) (i : ℕ) → i < length profile → slice_get profile i ≡ None → ⊥
@@ -48,7 +48,7 @@ pub first_more : (profile : List DeviceParts) (i : ℕ) (d : DeviceParts) (devic
     → AllStand Outside (devices ++ made ∷ []) (first_members (take (i + 1) profile))
 first_more profile i d devices made is all one =
     subst (AllStand Outside (devices ++ made ∷ []))
-    (sym (ap first_members (one_more profile i d is)
+    (sym (ap first_members (one_more_of profile i d is)
     ∙ map-append (λ (p : DeviceParts). record { device = p; state = first_state p }) (take i profile) (d ∷ [])))
     (stand_more Outside devices (first_members (take i profile)) made (record { device = d; state = first_state d }) all
     one)

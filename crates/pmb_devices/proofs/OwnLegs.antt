@@ -1,16 +1,15 @@
 -- The leg of a packet that is a device's own: there is one at most, and it says what STOP does.
 -- For `Bus::new`, `Bus::signal` and the laws on packets. It is the first leg that begins with the
--- device's write address, and a first that passes a test is at one place (`one_first`).
-use Rattle.std.proofs.Common.{◌≡◌, ℕ, Bool, true, false, List, [], ◌∷◌, ◌++◌, refl, sym, ap, subst, ◌∙◌}
-use Rattle.std.specs.List.{list_any}
-use Rattle.std.proofs.lemmas.Bool.{eq-eqb, ne_eqb, or_parts}
-use Rattle.std.proofs.lemmas.List.Folds.{list_any-append}
+-- device's write address, and a first that passes a test is at one place (`one_first` of `pmb_device`).
+use Rattle.std.proofs.Common.{◌≡◌, ℕ, false, List, [], ◌∷◌, ◌++◌, refl, sym, ap, subst, ◌∙◌}
+use Rattle.std.proofs.lemmas.Bool.{ne_eqb}
 use Rattle.pmb_command.specs.Parts.{DeviceParts}
 use Rattle.pmb_bus.specs.Address.{write_address}
 use Rattle.pmb_registers.specs.State.{DeviceState}
 use Rattle.pmb_device.specs.declared.signal.HostSignal.TheVariants.{Byte}
 use Rattle.pmb_device.specs.Legs.{Leg, sent, is_first_byte, is_to, some_is_to}
 use Rattle.pmb_device.specs.Ends.{LegsEnd, OwnLegEnds, own_leg, no_leg}
+use Rattle.pmb_device.proofs.FirstLeg.{is_to_first, one_first, some_passes}
 
 -- ---- legs of bytes alone
 
@@ -28,52 +27,9 @@ pub one_byte_more : (bytes : List ℕ) (b : ℕ) → byte_leg bytes ++ Byte b �
 one_byte_more [] b = refl
 one_byte_more (c ∷ bytes) b = ap (λ (leg : Leg). Byte c ∷ leg) (one_byte_more bytes b)
 
--- ---- the first that passes a test
-
--- none passes among some with one that does
-some_passes : {X : Type 0} (p : X → Bool) (front : List X) (x : X) (back : List X) → p x ≡ true
-    → list_any p (front ++ x ∷ back) ≡ false → ⊥
-some_passes p front x back passes none =
-    let behind = or_parts (list_any p front) (list_any p (x ∷ back))
-    (sym (list_any-append p front (x ∷ back)) ∙ none) in
-    let here = or_parts (p x) (list_any p back) behind.1 in
-    cc (here.0, passes)
-
--- There is one place of the first that passes.
-pub record SamePlace {X : Type 0} (front before : List X) (a b : X) (back behind : List X) : Type 0 where
-  pub in_front : front ≡ before
-  pub here : a ≡ b
-  pub later : back ≡ behind
-
-pub one_first : {X : Type 0} (p : X → Bool) (front before : List X) (a b : X) (back behind : List X)
-    → front ++ a ∷ back ≡ before ++ b ∷ behind
-    → list_any p front ≡ false → list_any p before ≡ false → p a ≡ true → p b ≡ true
-    → SamePlace front before a b back behind
-one_first p [] [] a b back behind same none nor passes also =
-    record { in_front = refl; here = cc same; later = cc same }
-one_first p [] (y ∷ before) a b back behind same none nor passes also =
-    let is : a ≡ y = cc same in
-    let other = or_parts (p y) (list_any p before) nor in
-    absurd (cc (ap p is, other.0, passes))
-one_first p (x ∷ front) [] a b back behind same none nor passes also =
-    let is : x ≡ b = cc same in
-    let other = or_parts (p x) (list_any p front) none in
-    absurd (cc (ap p is, other.0, also))
-one_first p (x ∷ front) (y ∷ before) a b back behind same none nor passes also =
-    let first : x ≡ y = cc same in
-    let rest : front ++ a ∷ back ≡ before ++ b ∷ behind = cc same in
-    let later =
-    one_first p front before a b back behind rest (or_parts (p x) (list_any p front) none).1
-    (or_parts (p y) (list_any p before) nor).1 passes also in
-    let front_is : front ≡ before = later.in_front in
-    record { in_front = cc; here = later.here; later = later.later }
-
 -- ---- what STOP does
 
--- a leg that begins with a byte, and one that begins with another
-pub is_to_first : (address : ℕ) (bytes : List ℕ) (leg : Leg) → sent leg ≡ address ∷ bytes → is_to address leg ≡ true
-is_to_first address bytes leg is = ap (is_first_byte address) is ∙ eq-eqb address address refl
-
+-- a leg that begins with another byte
 pub is_to_other : (address first : ℕ) (bytes : List ℕ) (leg : Leg) → (first ≡ address → ⊥) → sent leg ≡ first ∷ bytes
     → is_to address leg ≡ false
 is_to_other address first bytes leg other is = ap (is_first_byte address) is ∙ ne_eqb first address other

@@ -6,6 +6,7 @@ use Rattle.std.proofs.Common.{◌≡◌, ℕ, inl, inr, Bool, true, false, ◌||
 use Rattle.std.proofs.Common.{ap, subst, ◌∙◌, append_assoc}
 use Rattle.std.specs.List.{Contains}
 use Rattle.std.proofs.lemmas.Bool.{eqb-true, or_from}
+use Rattle.pmb_bus.specs.declared.event.Event.{Event}
 use Rattle.pmb_bus.specs.declared.event.Event.TheVariants as wire
 use Rattle.pmb_bus.specs.Address.{read_address, write_address, alert_address}
 use Rattle.pmb_transaction.specs.Body.{checked, IsRequest}
@@ -19,9 +20,10 @@ use Rattle.pmb_device.specs.declared.signal.DeviceSignal.TheVariants as answers
 use Rattle.pmb_device.specs.Legs.{Leg, Legs, Outside, Inside, is_to, sent, some_is_to}
 use Rattle.pmb_device.specs.Ends.{LegsEnd, NotesAnswer, ReadOrActs, asked, not_asked}
 use Rattle.pmb_devices.specs.Bus.{BusAnswers}
-use Rattle.pmb_devices.proofs.Givers.{Acked, no_read_address, read_taken, run_address, run_leg, took_all}
-use Rattle.pmb_devices.proofs.OwnLegs.{byte_leg, ends_at, ends_without, is_to_first, is_to_other, sent_bytes}
-use Rattle.pmb_devices.proofs.Parsing.{Stands, acknowledged_is, at_stop, closed, has_start, stays_in}
+use Rattle.pmb_device.proofs.FirstLeg.{is_to_first}
+use Rattle.pmb_devices.proofs.Givers.{Acked, OneRan, Ran, no_read_address, read_taken, run_address, run_leg, took_all}
+use Rattle.pmb_devices.proofs.OwnLegs.{byte_leg, ends_at, ends_without, is_to_other, sent_bytes}
+use Rattle.pmb_devices.proofs.Parsing.{Goes, Stands, acknowledged_is, at_stop, closed, has_start, stays_in}
 use Rattle.pmb_devices.proofs.Writes.{by_test, other_written}
 
 -- none of the bytes of a reply is START
@@ -118,14 +120,26 @@ module _ (members : List InState) (member : InState) (in_bus : Contains members 
 
   -- ---- a read or a call
 
-  -- A member that gave ACK to be read notes nothing.
-  pub answered_changes_nothing : (final : Legs) (addr : ℕ) (body reply : List ℕ) (with_pec : Bool) (after : DeviceState)
-      → (addr ≡ member.device.address → IsRequest member.device body)
+  -- what is recorded after the read address of a reply
+  abbrev pub behind_read : ℕ → List ℕ → List ℕ → Bool → List Event
+  behind_read addr body reply with_pec =
+      nacked (checked with_pec (write_address addr ∷ body ++ read_address addr ∷ []) reply) ++ wire.Stop ∷ []
+
+  -- The legs of a packet that is answered: one that is written, and one that is read.
+  pub record AnsweredLegs (final : Legs) (addr : ℕ) (body reply : List ℕ) (with_pec : Bool) : Type 0 where
+    -- the signals of the first leg,
+    pub written : Ran members final [] addr [] body
+        (wire.Start ∷ wire.Byte (read_address addr) ∷ wire.Ack ∷ behind_read addr body reply with_pec)
+    -- of the read address,
+    pub read : OneRan members final (byte_leg (write_address addr ∷ body) ∷ []) [] (read_address addr) wire.Ack
+        (behind_read addr body reply with_pec)
+    -- and of the reply, in which no START is
+    pub goes : Goes members final (byte_leg (write_address addr ∷ body) ∷ []) (byte_leg (read_address addr ∷ []))
+
+  pub answered_legs : (final : Legs) (addr : ℕ) (body reply : List ℕ) (with_pec : Bool)
       → Stands members final Outside (answered addr body reply with_pec)
-      → LegsEnd member.device (closed final) member.state after
-      → after ≡ member.state
-  answered_changes_nothing final addr body reply with_pec after request stands ends =
-      let d = member.device in
+      → AnsweredLegs final addr body reply with_pec
+  answered_legs final addr body reply with_pec stands =
       -- the bytes of the reply
       let bytes = checked with_pec (write_address addr ∷ body ++ read_address addr ∷ []) reply in
       let rest = nacked bytes ++ wire.Stop ∷ [] in
@@ -135,15 +149,30 @@ module _ (members : List InState) (member : InState) (in_bus : Contains members 
       let spelled : answered addr body reply with_pec ≡ leg (write_address addr ∷ body)
       ++ (wire.Start ∷ wire.Byte (read_address addr) ∷ wire.Ack ∷ rest) =
       append_assoc (leg (write_address addr ∷ body)) reply_leg (wire.Stop ∷ []) in
-      -- the signals of the first leg,
       let written =
       run_leg members final Outside addr body (wire.Start ∷ wire.Byte (read_address addr) ∷ wire.Ack ∷ rest)
       (subst (Stands members final Outside) spelled stands) in
-      -- of the read address,
       let read = run_address members final (Inside [] first) (read_address addr) wire.Ack rest written.stands in
-      -- and of the reply, in which no START is
-      let goes = stays_in members final (first ∷ []) (byte_leg (read_address addr ∷ [])) rest
-      (no_start_nacked bytes) read.stands in
+      record {
+        written = written;
+        read = read;
+        goes = stays_in members final (first ∷ []) (byte_leg (read_address addr ∷ [])) rest
+            (no_start_nacked bytes) read.stands;
+      }
+
+  -- A member that gave ACK to be read notes nothing.
+  pub answered_changes_nothing : (final : Legs) (addr : ℕ) (body reply : List ℕ) (with_pec : Bool) (after : DeviceState)
+      → (addr ≡ member.device.address → IsRequest member.device body)
+      → Stands members final Outside (answered addr body reply with_pec)
+      → LegsEnd member.device (closed final) member.state after
+      → after ≡ member.state
+  answered_changes_nothing final addr body reply with_pec after request stands ends =
+      let d = member.device in
+      let first = byte_leg (write_address addr ∷ body) in
+      let all = answered_legs final addr body reply with_pec stands in
+      let written = all.written in
+      let read = all.read in
+      let goes = all.goes in
       let next = byte_leg (read_address addr ∷ []) ++ goes.behind in
       -- so the legs are these two
       let legs : closed final ≡ first ∷ next ∷ [] = ap closed goes.is in
@@ -184,15 +213,29 @@ module _ (members : List InState) (member : InState) (in_bus : Contains members 
       ends_without member.device member.state after (leg ∷ [])
       (or_from (is_to w leg) false (elsewhere_read n bytes leg is) refl) ends
 
+  -- the leg of an answer there
+  pub alert_leg : (final : Legs) (bytes : List ℕ)
+      → Stands members final Outside (leg (read_address alert_address ∷ []) ++ nacked bytes ++ wire.Stop ∷ [])
+      → Goes members final [] (byte_leg (read_address alert_address ∷ []))
+  alert_leg final bytes stands =
+      let rest = nacked bytes ++ wire.Stop ∷ [] in
+      let read = run_address members final Outside (read_address alert_address) wire.Ack rest stands in
+      stays_in members final [] (byte_leg (read_address alert_address ∷ [])) rest (no_start_nacked bytes) read.stands
+
+  -- and of none
+  pub no_alert_leg : (final : Legs)
+      → Stands members final Outside (wire.Start ∷ wire.Byte (read_address alert_address) ∷ wire.Nack ∷ wire.Stop ∷ [])
+      → closed final ≡ byte_leg (read_address alert_address ∷ []) ∷ []
+  no_alert_leg final stands =
+      let read = run_address members final Outside (read_address alert_address) wire.Nack (wire.Stop ∷ []) stands in
+      ap closed (sym (at_stop members final (Inside [] (byte_leg (read_address alert_address ∷ []))) read.stands))
+
   -- an answer there
   pub alerts_change_nothing : (final : Legs) (bytes : List ℕ) (after : DeviceState)
       → Stands members final Outside (leg (read_address alert_address ∷ []) ++ nacked bytes ++ wire.Stop ∷ [])
       → LegsEnd member.device (closed final) member.state after → after ≡ member.state
   alerts_change_nothing final bytes after stands ends =
-      let rest = nacked bytes ++ wire.Stop ∷ [] in
-      let read = run_address members final Outside (read_address alert_address) wire.Ack rest stands in
-      let goes = stays_in members final [] (byte_leg (read_address alert_address ∷ [])) rest
-      (no_start_nacked bytes) read.stands in
+      let goes = alert_leg final bytes stands in
       alone_read alert_address (sent goes.behind) (byte_leg (read_address alert_address ∷ []) ++ goes.behind) after refl
       (subst (λ (ls : List Leg). LegsEnd member.device ls member.state after) (ap closed goes.is) ends)
 
@@ -201,7 +244,5 @@ module _ (members : List InState) (member : InState) (in_bus : Contains members 
       → Stands members final Outside (wire.Start ∷ wire.Byte (read_address alert_address) ∷ wire.Nack ∷ wire.Stop ∷ [])
       → LegsEnd member.device (closed final) member.state after → after ≡ member.state
   no_alert_changes_nothing final after stands ends =
-      let read = run_address members final Outside (read_address alert_address) wire.Nack (wire.Stop ∷ []) stands in
-      let is = at_stop members final (Inside [] (byte_leg (read_address alert_address ∷ []))) read.stands in
       alone_read alert_address [] (byte_leg (read_address alert_address ∷ [])) after refl
-      (subst (λ (ls : List Leg). LegsEnd member.device ls member.state after) (ap closed (sym is)) ends)
+      (subst (λ (ls : List Leg). LegsEnd member.device ls member.state after) (no_alert_leg final stands) ends)

@@ -47,7 +47,7 @@ none_in_front (y ∷ front) x back same = cc same
 
 module _ (device : DeviceParts) (place : LegPlace) where
   -- of bytes that are taken the last is
-  takes_last : (taken front : List ℕ) (last : ℕ) → TakesAll device place taken (front ++ last ∷ [])
+  pub takes_last : (taken front : List ℕ) (last : ℕ) → TakesAll device place taken (front ++ last ∷ [])
       → TakesByte device place (taken ++ front) last
   takes_last taken [] last all = subst (λ (bs : List ℕ). TakesByte device place bs last) (sym (append-nil taken)) all.0
   takes_last taken (b ∷ front) last all =
@@ -106,7 +106,7 @@ noted_of device place front last before after taken room r =
     ]
 
 -- no body is empty
-no_empty_write : (device : DeviceParts) (code : ℕ) (content : List ℕ) (with_pec : Bool)
+pub no_empty_write : (device : DeviceParts) (code : ℕ) (content : List ℕ) (with_pec : Bool)
     → WriteBody device code content with_pec [] → ⊥
 no_empty_write device code content with_pec body =
     let spelled_so = body.spelled ∙ checked_is with_pec (write_address device.address ∷ [])
@@ -199,6 +199,19 @@ module _ (profile : List DeviceParts) (members : List InState) (member : InState
 
   -- ---- an address
 
+  -- Where an address was refused: its leg is the last one.
+  pub address_leg_of : (final reached : Legs) (addr : ℕ) (legs : List Leg) (last : List Event)
+      → closed reached ≡ legs → AddressRefused profile addr last
+      → Stands members final reached (last ++ wire.Stop ∷ [])
+      → closed final ≡ legs ++ byte_leg (write_address addr ∷ []) ∷ []
+  address_leg_of final reached addr legs last closed_is refused stands =
+      let begun = subst (λ (es : List Event). Stands members final reached (es ++ wire.Stop ∷ [])) refused.spelled
+      stands in
+      let one = run_address members final reached (write_address addr) wire.Nack (wire.Stop ∷ []) begun in
+      let own_leg = byte_leg (write_address addr ∷ []) in
+      let is = at_stop members final (Inside (closed reached) own_leg) one.stands in
+      ap closed (sym is) ∙ ap (λ (ls : List Leg). ls ++ own_leg ∷ []) closed_is
+
   -- Where an address is refused nothing is noted.
   pub address_refused : (final reached : Legs) (parts : List PartData) (addr : ℕ) (legs : List Leg) (last : List Event)
       (after : DeviceState)
@@ -209,13 +222,8 @@ module _ (profile : List DeviceParts) (members : List InState) (member : InState
       → after ≡ after_refusal member.device (record { parts = parts; addr = addr; sent = []; at_read = false })
       (after_parts member.device parts member.state)
   address_refused final reached parts addr legs last after closed_is each distinct new refused stands ends =
-      let begun = subst (λ (es : List Event). Stands members final reached (es ++ wire.Stop ∷ [])) refused.spelled
-      stands in
-      let one = run_address members final reached (write_address addr) wire.Nack (wire.Stop ∷ []) begun in
       let own_leg = byte_leg (write_address addr ∷ []) in
-      let is = at_stop members final (Inside (closed reached) own_leg) one.stands in
-      let legs_are : closed final ≡ legs ++ own_leg ∷ [] = ap closed (sym is)
-      ∙ ap (λ (ls : List Leg). ls ++ own_leg ∷ []) closed_is in
+      let legs_are = address_leg_of final reached addr legs last closed_is refused stands in
       last_ends parts addr [] legs own_leg after each distinct new refl
       (
       λ addr_is none own_ends.
@@ -225,16 +233,24 @@ module _ (profile : List DeviceParts) (members : List InState) (member : InState
 
   -- ---- a byte
 
-  -- A refused byte is noted by the member that refused it.
-  pub byte_refused : (final reached : Legs) (parts : List PartData) (addr : ℕ) (bytes : List ℕ) (legs : List Leg)
-      (last : List Event) (after : DeviceState)
-      → closed reached ≡ legs → PartLegs profile members [] parts legs → IsDistinct nat_eq (addresses parts)
-      → IsNew addr (addresses parts)
-      → ByteRefused profile parts addr bytes last → Stands members final reached (last ++ wire.Stop ∷ [])
-      → LegsEnd member.device (closed final) member.state after
-      → after ≡ after_refusal member.device (record { parts = parts; addr = addr; sent = bytes; at_read = false })
-      (after_parts member.device parts member.state)
-  byte_refused final reached parts addr bytes legs last after closed_is each distinct new refused stands ends =
+  -- What a member did with the bytes of its own leg: it took those in front, and refused the last one.
+  pub record RefusedByte (legs : List Leg) (front : List ℕ) (byte : ℕ) : Type 0 where
+    pub taken : TakesAll member.device (leg_place legs) [] front
+    pub not_taken : TakesByte member.device (leg_place legs) front byte → ⊥
+
+  -- Where a byte was refused: its leg is the last one, and its device refused it.
+  pub record ByteLeg (final : Legs) (addr : ℕ) (front : List ℕ) (byte : ℕ) (legs : List Leg) : Type 0 where
+    pub own_leg : Leg
+    pub legs_are : closed final ≡ legs ++ own_leg ∷ []
+    pub sent_are : sent own_leg ≡ write_address addr ∷ (front ++ byte ∷ [])
+    pub refused : addr ≡ member.device.address → some_is_to (write_address member.device.address) legs ≡ false
+        → RefusedByte legs front byte
+
+  pub byte_leg_of : (final reached : Legs) (parts : List PartData) (addr : ℕ) (bytes : List ℕ) (legs : List Leg)
+      (last : List Event) → closed reached ≡ legs
+      → (refused : ByteRefused profile parts addr bytes last) → Stands members final reached (last ++ wire.Stop ∷ [])
+      → ByteLeg final addr refused.front refused.last legs
+  byte_leg_of final reached parts addr bytes legs last closed_is refused stands =
       -- the bytes that had ACK, and the one that had NACK
       let d = member.device in
       let front = refused.front in
@@ -258,57 +274,80 @@ module _ (profile : List DeviceParts) (members : List InState) (member : InState
       -- so the refused leg is the last one
       let own_leg = byte_leg (write_address addr ∷ front ++ byte ∷ []) in
       let is = at_stop members final (Inside (closed reached) own_leg) one.stands in
-      let legs_are : closed final ≡ legs ++ own_leg ∷ [] = ap closed (sym is)
-      ∙ ap (λ (ls : List Leg). ls ++ own_leg ∷ []) closed_is in
-      let sent_are : sent own_leg ≡ write_address addr ∷ bytes =
-      sent_bytes (write_address addr ∷ front ++ byte ∷ []) ∙ ap (λ (bs : List ℕ). write_address addr ∷ bs)
-      (sym refused.split) in
-      last_ends parts addr bytes legs own_leg after each distinct new sent_are
+      record {
+        own_leg = own_leg;
+        legs_are = ap closed (sym is) ∙ ap (λ (ls : List Leg). ls ++ own_leg ∷ []) closed_is;
+        sent_are = sent_bytes (write_address addr ∷ front ++ byte ∷ []);
+        refused = λ addr_is none.
+            let w = write_address d.address in
+            let own_written : IsWritten d legs w = record { own = refl; once = none } in
+            -- it took the bytes before,
+            let acks =
+            subst (λ (a : ℕ). Acked members legs (write_address a ∷ []) front) addr_is
+            (subst (λ (ls : List Leg). Acked members ls (write_address addr ∷ []) front) closed_is ran.acked_are) in
+            let taken = took_all members member in_bus legs w [] front own_written tt acks in
+            let answered =
+            subst (λ (a : ℕ). BusAnswers members (Inside legs (byte_leg (write_address a ∷ front)))
+            (Byte byte) one.result) addr_is
+            (subst (λ (ls : List Leg). BusAnswers members (Inside ls (byte_leg (write_address addr ∷ front)))
+            (Byte byte) one.result) closed_is one.answer) in
+            -- and did not take this one
+            record {
+              taken = taken;
+              not_taken = refused_byte members member in_bus legs w front byte one.result own_written taken answered
+                  one.recorded_as;
+            };
+      }
+
+  -- A refused byte is noted by the member that refused it.
+  pub byte_refused : (final reached : Legs) (parts : List PartData) (addr : ℕ) (bytes : List ℕ) (legs : List Leg)
+      (last : List Event) (after : DeviceState)
+      → closed reached ≡ legs → PartLegs profile members [] parts legs → IsDistinct nat_eq (addresses parts)
+      → IsNew addr (addresses parts)
+      → ByteRefused profile parts addr bytes last → Stands members final reached (last ++ wire.Stop ∷ [])
+      → LegsEnd member.device (closed final) member.state after
+      → after ≡ after_refusal member.device (record { parts = parts; addr = addr; sent = bytes; at_read = false })
+      (after_parts member.device parts member.state)
+  byte_refused final reached parts addr bytes legs last after closed_is each distinct new refused stands ends =
+      let d = member.device in
+      let front = refused.front in
+      let byte = refused.last in
+      let here = byte_leg_of final reached parts addr bytes legs last closed_is refused stands in
+      let sent_are : sent here.own_leg ≡ write_address addr ∷ bytes =
+      here.sent_are ∙ ap (λ (bs : List ℕ). write_address addr ∷ bs) (sym refused.split) in
+      last_ends parts addr bytes legs here.own_leg after each distinct new sent_are
       (
-      -- it is the member's own: it took the bytes before,
+      -- it is the member's own: it took the bytes before, and did not take this one,
       λ addr_is none own_ends.
-      let w = write_address d.address in
+      let own = here.refused addr_is none in
+      -- which had a place there:
       let device_is = the_own refused.device (subst (λ (a : ℕ). device_with a profile ≡ Some refused.device) addr_is
       refused.known) in
-      let own_written : IsWritten d legs w = record { own = refl; once = none } in
-      let acks =
-      subst (λ (a : ℕ). Acked members legs (write_address a ∷ []) front) addr_is
-      (subst (λ (ls : List Leg). Acked members ls (write_address addr ∷ []) front) closed_is ran.acked_are) in
-      let taken = took_all members member in_bus legs w [] front own_written tt acks in
-      let answered =
-      subst (λ (a : ℕ). BusAnswers members (Inside legs (byte_leg (write_address a ∷ front))) (Byte byte) one.result)
-      addr_is
-      (subst (λ (ls : List Leg). BusAnswers members (Inside ls (byte_leg (write_address addr ∷ front)))
-      (Byte byte) one.result) closed_is one.answer) in
-      -- did not take this one,
-      let not_taken = refused_byte members member in_bus legs w front byte one.result own_written taken answered
-      one.recorded_as in
-      -- which had a place there:
       let room = subst (λ (e : DeviceParts). GoesOn e (leg_place legs) front) device_is
       (room_at refused.device parts legs front each refused.begins) in
       let ended = subst (λ (bs : List ℕ). OwnLegEnds d legs bs [] member.state after) refused.split own_ends in
       -- so it notes this byte
       elim ended [
-        | inl w ↦ absurd (not_taken (takes_last d (leg_place legs) [] front byte w.0))
+        | inl w ↦ absurd (own.not_taken (takes_last d (leg_place legs) [] front byte w.0))
         | inr w ↦
-            noted_of d (leg_place legs) front byte member.state after taken room w.1
+            noted_of d (leg_place legs) front byte member.state after own.taken room w.1
             ∙ ap (λ (bs : List ℕ). with_noted d (bit_of_sent bs) member.state) (sym refused.split)
       ]
       )
-      (subst (λ (ls : List Leg). LegsEnd d ls member.state after) legs_are ends)
+      (subst (λ (ls : List Leg). LegsEnd d ls member.state after) here.legs_are ends)
 
   -- ---- an address for reading
 
-  -- So is a refusal to be read.
-  pub read_refused : (final : Legs) (addr : ℕ) (bytes : List ℕ) (last : List Event) (after : DeviceState)
+  -- Where a device refused to be read: the legs are its request, and one that begins with its read address.
+  pub record ReadLegs (final : Legs) (addr : ℕ) (bytes : List ℕ) : Type 0 where
+    pub legs_are : closed final ≡ byte_leg (write_address addr ∷ bytes) ∷ byte_leg (read_address addr ∷ []) ∷ []
+    pub acked_are : Acked members [] (write_address addr ∷ []) bytes
+
+  pub read_legs_of : (final : Legs) (addr : ℕ) (bytes : List ℕ) (last : List Event)
       → ReadRefused profile [] addr bytes last → Stands members final Outside (last ++ wire.Stop ∷ [])
-      → LegsEnd member.device (closed final) member.state after
-      → after ≡ after_refusal member.device (record { parts = []; addr = addr; sent = bytes; at_read = true })
-      member.state
-  read_refused final addr bytes last after refused stands ends =
+      → ReadLegs final addr bytes
+  read_legs_of final addr bytes last refused stands =
       -- the leg of the request, then START and its read address, which had NACK
-      let d = member.device in
-      let s = member.state in
       let behind = wire.Start ∷ wire.Byte (read_address addr) ∷ wire.Nack ∷ [] in
       let spelled_so : last ++ wire.Stop ∷ [] ≡ leg (write_address addr ∷ bytes) ++ (behind ++ wire.Stop ∷ []) =
       ap (λ (es : List Event). es ++ wire.Stop ∷ []) refused.spelled
@@ -321,6 +360,19 @@ module _ (profile : List DeviceParts) (members : List InState) (member : InState
       let read = run_address members final (Inside [] first) (read_address addr) wire.Nack
       (wire.Stop ∷ []) ran.stands in
       let is = at_stop members final (Inside (first ∷ []) next) read.stands in
+      record { legs_are = ap closed (sym is); acked_are = ran.acked_are }
+
+  -- So is a refusal to be read.
+  pub read_refused : (final : Legs) (addr : ℕ) (bytes : List ℕ) (last : List Event) (after : DeviceState)
+      → ReadRefused profile [] addr bytes last → Stands members final Outside (last ++ wire.Stop ∷ [])
+      → LegsEnd member.device (closed final) member.state after
+      → after ≡ after_refusal member.device (record { parts = []; addr = addr; sent = bytes; at_read = true })
+      member.state
+  read_refused final addr bytes last after refused stands ends =
+      let d = member.device in
+      let s = member.state in
+      let both = read_legs_of final addr bytes last refused stands in
+      let next = byte_leg (read_address addr ∷ []) in
       let refusal = λ (b : Bool). if b then with_noted d (bit_of_answer (answer d s bytes)) s else s in
       -- the member notes why, if the request was to it
       let two =
@@ -330,7 +382,7 @@ module _ (profile : List DeviceParts) (members : List InState) (member : InState
       subst (λ (e : DeviceParts). IsRequest e bytes)
       (the_own refused.device (subst (λ (a : ℕ). device_with a profile ≡ Some refused.device) addr_is refused.known))
       refused.body
-      ) ran.acked_are (subst (λ (ls : List Leg). LegsEnd d ls s after) (ap closed (sym is)) ends) in
+      ) both.acked_are (subst (λ (ls : List Leg). LegsEnd d ls s after) both.legs_are ends) in
       elim two [
         | own addr_is same ↦ same ∙ ap refusal (sym (eq-eqb addr d.address addr_is))
         | other differs same ↦ same ∙ ap refusal (sym differs)

@@ -10,9 +10,10 @@ use Rattle.pmb_registers.specs.State.{InState}
 use Rattle.pmb_device.specs.Legs.{Legs, Outside}
 use Rattle.pmb_devices.specs.Bus.{AnsweredSignal, legs_after}
 use Rattle.pmb_devices.specs.Replies.{IsState}
-use Rattle.pmb_devices.specs.Runs.{AllEnd, Runs, first_members}
+use Rattle.pmb_devices.specs.Runs.{Runs, first_members}
+use Rattle.pmb_devices.specs.Stops.{EachEnds}
 use Rattle.pmb_devices.proofs.FirstStates.{first_fits}
-use Rattle.pmb_devices.proofs.FittingStates.{end_fits}
+use Rattle.pmb_devices.proofs.FittingStates.{ends_fit}
 use Rattle.pmb_devices.proofs.Runs.{first_devices}
 
 -- a device, and a state that fits it
@@ -27,41 +28,43 @@ first_members_fit (device ∷ profile) all =
     (record { device = all.0; state = first_fits device all.0 }, first_members_fit profile all.1)
 
 -- STOP
-end_members : (legs : Legs) (olds news : List InState) → AllEnd legs olds news → AllByRecursion IsMember olds
-    → AllByRecursion IsMember news
-end_members legs [] [] ends all = tt
-end_members legs [] (new ∷ news) ends all = absurd ends
-end_members legs (old ∷ olds) [] ends all = absurd ends
-end_members legs (old ∷ olds) (new ∷ news) ends all = (
+end_members : (bus : List DeviceParts) (legs : Legs) (olds news : List InState) → EachEnds bus legs olds news
+    → AllByRecursion IsMember olds → AllByRecursion IsMember news
+end_members bus legs [] [] ends all = tt
+end_members bus legs [] (new ∷ news) ends all = absurd ends
+end_members bus legs (old ∷ olds) [] ends all = absurd ends
+end_members bus legs (old ∷ olds) (new ∷ news) ends all = (
   record {
     device = subst IsDevice (sym ends.0) all.0.device;
     state = subst (λ (d : DeviceParts). IsState d new.state) (sym ends.0)
-        (end_fits old.device legs old.state new.state all.0.device all.0.state ends.1);
+        (ends_fit bus old.device legs old.state new.state all.0.device all.0.state ends.1);
   },
-  end_members legs olds news ends.2 all.1,
+  end_members bus legs olds news ends.2 all.1,
 )
 
-end_devices : (legs : Legs) (olds news : List InState) → AllEnd legs olds news
+pub end_devices : (bus : List DeviceParts) (legs : Legs) (olds news : List InState) → EachEnds bus legs olds news
     → map (λ m. m.device) news ≡ map (λ m. m.device) olds
-end_devices legs [] [] ends = refl
-end_devices legs [] (new ∷ news) ends = absurd ends
-end_devices legs (old ∷ olds) [] ends = absurd ends
-end_devices legs (old ∷ olds) (new ∷ news) ends =
+end_devices bus legs [] [] ends = refl
+end_devices bus legs [] (new ∷ news) ends = absurd ends
+end_devices bus legs (old ∷ olds) [] ends = absurd ends
+end_devices bus legs (old ∷ olds) (new ∷ news) ends =
     ap (λ (d : DeviceParts). d ∷ map (λ (m : InState). m.device) news) ends.0
-    ∙ ap (λ (ds : List DeviceParts). old.device ∷ ds) (end_devices legs olds news ends.2)
+    ∙ ap (λ (ds : List DeviceParts). old.device ∷ ds) (end_devices bus legs olds news ends.2)
 
 run_members : (stretches : List (List AnsweredSignal)) (members now : List InState) → Runs members stretches now
     → AllByRecursion IsMember members
     → AllByRecursion IsMember now
 run_members [] members now runs all = subst (AllByRecursion IsMember) (sym runs) all
 run_members (stretch ∷ more) members now runs all =
-    run_members more runs.1.0 now runs.1.2 (end_members (legs_after Outside stretch) members runs.1.0 runs.1.1 all)
+    run_members more runs.1.0 now runs.1.2
+    (end_members (map (λ m. m.device) members) (legs_after Outside stretch) members runs.1.0 runs.1.1 all)
 
 run_devices : (stretches : List (List AnsweredSignal)) (members now : List InState) → Runs members stretches now
     → map (λ m. m.device) now ≡ map (λ m. m.device) members
 run_devices [] members now runs = ap (map (λ (m : InState). m.device)) runs
 run_devices (stretch ∷ more) members now runs =
-    run_devices more runs.1.0 now runs.1.2 ∙ end_devices (legs_after Outside stretch) members runs.1.0 runs.1.1
+    run_devices more runs.1.0 now runs.1.2
+    ∙ end_devices (map (λ m. m.device) members) (legs_after Outside stretch) members runs.1.0 runs.1.1
 
 one_of : (members : List InState) (k : ℕ) (member : InState) → AllByRecursion IsMember members → k < length members
     → get_or members k member ≡ member → IsMember member

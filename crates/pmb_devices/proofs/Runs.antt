@@ -24,10 +24,10 @@ use Rattle.pmb_device.specs.declared.signal.HostSignal.{HostSignal}
 use Rattle.pmb_device.specs.declared.signal.HostSignal.TheVariants.{Start, Byte, Ask, Ack, Nack, Stop}
 use Rattle.pmb_device.specs.declared.signal.DeviceSignal.{DeviceSignal}
 use Rattle.pmb_device.specs.declared.signal.DeviceSignal.TheVariants as answers
-use Rattle.pmb_device.specs.Ends.{Ends}
 use Rattle.pmb_device.specs.Legs.{Legs, Outside, with_signal}
 use Rattle.pmb_devices.specs.Bus.{AreAnswered, AnsweredSignal, acknowledged, recorded_events, legs_after, recorded}
 use Rattle.pmb_devices.specs.Runs.{AllEnd, IsTruncation, Runs, all_after, first_members, run_events}
+use Rattle.pmb_devices.specs.Stops.{EachEnds, EndsOn}
 use Rattle.pmb_devices.proofs.Applied.{transactions_are_applied}
 use Rattle.pmb_devices.proofs.Parsing.{given_no_stop}
 use Rattle.pmb_devices.proofs.Stopped.{no_stop_behind, no_stop_in_none, same_cut, up_to_stop}
@@ -68,20 +68,22 @@ abbrev after_one : TransactionData → InState → InState
 after_one t member = record { device = member.device; state = apply member.device t member.state }
 
 -- Where STOP makes of each device what a transaction makes of it, it does so of the list of them.
-pub all_are_applied : (t : TransactionData) (legs : Legs) (olds news : List InState) → AllEnd legs olds news
-    → ((member : InState) (after : DeviceState) → Contains olds member → Ends member.device legs member.state after
+pub all_are_applied : (bus : List DeviceParts) (t : TransactionData) (legs : Legs) (olds news : List InState)
+    → EachEnds bus legs olds news
+    → ((member : InState) (after : DeviceState) → Contains olds member
+    → EndsOn bus legs member.device member.state after
     → after ≡ apply member.device t member.state) → news ≡ map (after_one t) olds
-all_are_applied t legs [] [] ends each = refl
-all_are_applied t legs [] (new ∷ news) ends each = absurd ends
-all_are_applied t legs (old ∷ olds) [] ends each = absurd ends
-all_are_applied t legs (old ∷ olds) (new ∷ news) ends each =
+all_are_applied bus t legs [] [] ends each = refl
+all_are_applied bus t legs [] (new ∷ news) ends each = absurd ends
+all_are_applied bus t legs (old ∷ olds) [] ends each = absurd ends
+all_are_applied bus t legs (old ∷ olds) (new ∷ news) ends each =
     let first : 0 < length (old ∷ olds) = omega arith in
     let state_is : new.state ≡ apply old.device t old.state = each old new.state (0, first, refl) ends.1 in
     let new_is : new ≡ after_one t old =
     ap (λ (d : DeviceParts). record { device = d; state = new.state }) ends.0
     ∙ ap (λ (s : DeviceState). record { device = old.device; state = s }) state_is in
     let later =
-    all_are_applied t legs olds news ends.2
+    all_are_applied bus t legs olds news ends.2
     (
     λ member after inside ended.
     let below : suc inside.0 < length (old ∷ olds) = omega (arith, inside.1) in
@@ -147,9 +149,11 @@ module _ (profile : List DeviceParts) where
         → AreAnswered members Outside stretch → Packet profile t (recorded_events stretch ++ wire.Stop ∷ [])
         → AllEnd (legs_after Outside stretch) members next → next ≡ map (after_one t) members
     stretch_applied members next stretch t are answered packet ends =
-        all_are_applied t (legs_after Outside stretch) members next ends
+        all_are_applied (map (λ m. m.device) members) t (legs_after Outside stretch) members next ends
         (λ member after inside ended. transactions_are_applied profile members stretch t member after bus are answered
-        packet inside ended)
+        packet inside
+        (subst (λ (ds : List DeviceParts). EndsOn ds (legs_after Outside stretch) member.device member.state after) are
+        ended))
 
     -- where a run's first stretch ends, and what comes after it
     first_stretch : (stretch : List AnsweredSignal) (more : List (List AnsweredSignal)) (history : List AnsweredSignal)

@@ -1,4 +1,5 @@
 pub mod Bus
+pub mod Stops
 pub mod Runs
 pub mod Replies
 pub mod Recorded

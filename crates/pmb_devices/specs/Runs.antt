@@ -11,20 +11,16 @@ use Rattle.pmb_transaction.specs.Reading.{Outcome, Refusal, RefusalData}
 use Rattle.pmb_registers.specs.State.{InState, first_state}
 use Rattle.pmb_registers.specs.Apply.{apply_all}
 use Rattle.pmb_device.specs.Legs.{Legs, Outside}
-use Rattle.pmb_device.specs.Ends.{Ends}
 use Rattle.pmb_devices.specs.Bus.{AreAnswered, AnsweredSignal, recorded_events, legs_after}
+use Rattle.pmb_devices.specs.Stops.{EachEnds}
 
 -- each device of a profile in its first state
 abbrev pub first_members : List DeviceParts → List InState
 first_members profile = map (λ device. record { device = device; state = first_state device }) profile
 
--- Each device goes where STOP leads it after these legs.
+-- Each device of a bus goes where STOP leads it after these legs.
 abbrev pub AllEnd : Legs → List InState → List InState → Type 0
-AllEnd legs [] [] = Unit {0}
-AllEnd legs [] (new ∷ news) = ⊥
-AllEnd legs (old ∷ olds) [] = ⊥
-AllEnd legs (old ∷ olds) (new ∷ news) = (new.device ≡ old.device) × Ends old.device legs old.state new.state
-    × AllEnd legs olds news
+AllEnd legs olds news = EachEnds (map (λ member. member.device) olds) legs olds news
 
 -- The devices go from some states to others by stretches of signals, each ended by STOP.
 abbrev pub Runs : List InState → List (List AnsweredSignal) → List InState → Type 0

@@ -26,8 +26,9 @@ abbrev pub all_applied : TransactionData → List InState → List InState
 all_applied t members = map (λ member. record { device = member.device; state = apply member.device t member.state })
     members
 
--- What STOP makes of the bus. Where the events since the last STOP, with this one, are the packet
--- of a transaction, each device becomes what the transaction makes of it, whatever came before.
+-- What STOP makes of the bus: each device does what its own leg asks for, and takes after that what was
+-- written at its other addresses. Where the events since the last STOP, with this one, are the packet of a
+-- transaction, each device becomes what the transaction makes of it, whatever came before.
 pub record BusEnds (standing : BusStanding) (new : Bus) : Type 0 where
   pub members : List InState
   pub ends : AllEnd (legs_after Outside standing.history) standing.members members

@@ -1,20 +1,23 @@
 //! A bus of devices.
 //!
 //! Each signal of the host is given to each device. At most one of them is not silent, since no two
-//! have one address: its answer is the one on the bus.
+//! have one address: its answer is the one on the bus. After STOP, devices whose parts take what is
+//! written at other addresses take that (`others`); whether there are such devices is found out once.
 //!
 //! Its rows: `tests_devices`, `src/devices/sessions.rt`, `calls.rt`, `compared.rt`.
 
-ghost use Rattle.std.specs.Prelude.{◌≡◌, ℕ, ◌+◌, ◌<◌, List, [], IfOk, MatchOption, OnOk, length, take, vec_capacity};
+ghost use Rattle.std.specs.Prelude.{◌≡◌, ◌&&◌, ℕ, ◌+◌, ◌<◌, List, [], IfOk, MatchOption, OnOk, length, take, vec_capacity};
 ghost use Rattle.pmb_registers.specs.State.{InState};
 ghost use Rattle.pmb_device.specs.Legs.{Legs, Outside};
 ghost use Rattle.pmb_devices.specs.Bus.{recorded};
 ghost use Rattle.pmb_devices.specs.Runs.{first_members};
 ghost use Rattle.pmb_devices.specs.Signal.{BusStanding, BusStandsAt, BusTakes, HasNone, Tells};
+ghost use Rattle.pmb_devices.specs.machine.Others.{devices_of, some_listens};
 ghost use Rattle.pmb_devices.specs.machine.Standing.{AllStand};
-ghost use Rattle.pmb_devices.specs.machine.Hands.{HandsOn, or_else};
+ghost use Rattle.pmb_devices.specs.machine.Hands.{Gives, HandsOn, is_stop, or_else};
 
 use crate::laws::transactions_are_applied;
+use crate::others::{some_listens, take_others};
 use crate::recorded::Recorded;
 use pmb_device::{Device, DeviceSignal, HostSignal};
 use pmb_table::Profile;
@@ -27,6 +30,8 @@ pub struct Bus<'p> {
     profile: &'p Profile,
     /// The devices, in the profile's order.
     devices: Vec<Device<'p>>,
+    /// Whether some device takes what is written at other addresses.
+    listens: bool,
 }
 
 /// One answer, or, where that is silence, another one.
@@ -46,6 +51,26 @@ fn hand_on(devices: &mut [Device<'_>], signal: HostSignal) -> DeviceSignal
     let mut answer = DeviceSignal::Silent;
     for device in devices.iter_mut() {
         answer = or_else(device.on(signal), answer);
+    }
+    answer
+}
+
+/// Whether devices take now what was written at other addresses: after STOP, if some device does so.
+fn take_now(listens: bool, signal: HostSignal) -> bool
+    ensures { result ≡ listens && is_stop signal }
+{
+    listens && matches!(signal, HostSignal::Stop)
+}
+
+/// Gives a signal to each device, and returns the last answer that is not silence. After STOP, if some
+/// device takes what is written at other addresses, each takes that.
+fn give(devices: &mut [Device<'_>], signal: HostSignal, listens: bool) -> DeviceSignal
+    ensures { (legs : Legs) (members : List InState) → AllStand legs devices.old members
+        → listens ≡ some_listens (devices_of members) → Gives legs signal members result devices.new }
+{
+    let answer = hand_on(devices, signal);
+    if take_now(listens, signal) {
+        take_others(devices);
     }
     answer
 }
@@ -82,17 +107,21 @@ impl<'p> Bus<'p> {
         for i in 0..profile.len() {
             add_device(&mut devices, alloc, profile, i)?;
         }
-        Ok(Bus { profile, devices })
+        Ok(Bus {
+            profile,
+            devices,
+            listens: some_listens(profile),
+        })
     }
 
     /// Gives a signal to each device, and records it with the answer on the bus. At STOP each device
-    /// does what its own leg asks for.
+    /// does what its own leg asks for, and takes after that what was written at its other addresses.
     pub fn signal(&mut self, signal: HostSignal) -> Recorded
         ensures events { result.events ≡ recorded signal result.result }
         ensures takes { (standing : BusStanding) → BusStandsAt self.old standing → BusTakes standing signal result.result self.new }
     {
         transactions_are_applied();
-        let answer = hand_on(self.devices.as_mut_slice(), signal);
+        let answer = give(self.devices.as_mut_slice(), signal, self.listens);
         Recorded::new(signal, answer)
     }
 

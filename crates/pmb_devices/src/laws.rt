@@ -14,9 +14,9 @@ ghost use Rattle.pmb_transaction.specs.Reading.{Accepted, Outcome, Reading};
 ghost use Rattle.pmb_registers.specs.State.{DeviceState, InState};
 ghost use Rattle.pmb_registers.specs.Apply.{apply};
 ghost use Rattle.pmb_device.specs.Legs.{Outside};
-ghost use Rattle.pmb_device.specs.Ends.{Ends};
 ghost use Rattle.pmb_devices.specs.Bus.{AreAnswered, AnsweredSignal, recorded_events, legs_after};
 ghost use Rattle.pmb_devices.specs.Runs.{AreStopped, IsTruncation, Runs, all_after, first_members, run_events};
+ghost use Rattle.pmb_devices.specs.Stops.{EndsOn};
 
 use pmb_transaction::laws::{
     packet_ends_with_stop, packets_under_way, refused_events_have_a_reason,
@@ -28,7 +28,7 @@ pub fn transactions_are_applied()
     ensures { (profile : List DeviceParts) (members : List InState) (history : List AnsweredSignal) (t : TransactionData)
         (member : InState) (after : DeviceState) → IsBus profile → map (λ m. m.device) members ≡ profile
         → AreAnswered members Outside history → Packet profile t (recorded_events history ++ Stop ∷ [])
-        → Contains members member → Ends member.device (legs_after Outside history) member.state after
+        → Contains members member → EndsOn profile (legs_after Outside history) member.device member.state after
         → after ≡ apply member.device t member.state }
 {}
 

@@ -17,6 +17,7 @@
 mod bus;
 pub mod laws;
 pub mod laws_on_replies;
+mod others;
 mod recorded;
 
 pub use bus::Bus;

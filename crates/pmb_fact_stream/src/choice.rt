@@ -6,7 +6,7 @@ ghost use Rattle.pmb_fact_stream.specs.Telling.{Fits, fits_once};
 
 use crate::telling::Telling;
 use pmb_decimal::Digits;
-use pmb_table::Ignored;
+use pmb_table::Addresses;
 use pmb_unknown_start::Start;
 
 /// Which facts of a capture are wanted, and how they are told.
@@ -21,7 +21,7 @@ pub struct Choice<'c> {
     pub devices: &'c [u8],
     /// The addresses that speak no PMBus, where the profile says which these are. A packet to one of
     /// them is an other: one fact, and no packet or refusal.
-    pub ignored: Option<&'c Ignored>,
+    pub ignored: Option<&'c Addresses>,
     /// How facts are told.
     pub telling: Telling,
     pub ghost fits: { Fits telling } by { fits_once telling },

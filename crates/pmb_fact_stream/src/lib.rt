@@ -35,6 +35,6 @@ mod writes;
 
 pub use choice::Choice;
 pub use kept_stream::KeptStream;
-pub use pmb_table::Ignored;
+pub use pmb_table::Addresses;
 pub use stream::Stream;
 pub use telling::Telling;

@@ -18,6 +18,8 @@ pub(crate) struct TablePlace<'a> {
     pub(crate) command: Option<usize>,
     /// The addresses that the profile ignores.
     pub(crate) ignored: &'a [Value],
+    /// The devices of the profile.
+    pub(crate) devices: &'a [Value],
     /// How many pages its device has.
     pub(crate) pages: i64,
 }

@@ -136,6 +136,7 @@ fn table_hint(alloc: Global, text: &str, table: &Table, fault: ProfileFault, lin
         device: None,
         command: None,
         ignored: items(table, "ignore").unwrap_or(&[]),
+        devices: items(table, "device").unwrap_or(&[]),
         pages: 1,
     };
     let Some(number) = fault.device else {

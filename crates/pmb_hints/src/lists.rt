@@ -83,11 +83,13 @@ fn has_one_mode(keyed: Keyed<'_>) -> bool {
     false
 }
 
+/// What is needed where a number of a list is no address.
+const SEVEN_BITS: &str = "an address of 7 bits is needed, from 0 to 127";
+
 /// Writes an ignored address that is none of 7 bits, if there is one.
 pub(crate) fn ignored_hint(keyed: Keyed<'_>, lines: &mut Draft) -> bool {
-    let rule = "an address of 7 bits is needed, from 0 to 127";
     match first_over(keyed, "ignore", 127) {
-        Some(place) => keyed.item_rule("ignore", place, rule, lines),
+        Some(place) => keyed.item_rule("ignore", place, SEVEN_BITS, lines),
         None => false,
     }
 }
@@ -106,6 +108,53 @@ fn is_item(items: &[Value], number: i64) -> bool {
     for item in items {
         if item.as_integer() == Some(number) {
             return true;
+        }
+    }
+    false
+}
+
+/// Writes the first of the other addresses of a device that is none of 7 bits, or that no device has, if
+/// there is one.
+pub(crate) fn also_hint(keyed: Keyed<'_>, lines: &mut Draft) -> bool {
+    for (place, item) in keyed.items("also").unwrap_or(&[]).iter().enumerate() {
+        if let Some(address) = item.as_integer() {
+            if let Some(rule) = also_rule(keyed.place.devices, address) {
+                return keyed.item_rule("also", place, rule.as_str(), lines);
+            }
+        }
+    }
+    false
+}
+
+/// The rule that one of the other addresses of a device breaks, if it breaks one.
+fn also_rule(devices: &[Value], address: i64) -> Option<Rule> {
+    let mut rule = Rule::new();
+    if address < 0 || address > 127 {
+        let _ = rule.try_push_str(SEVEN_BITS);
+    } else if is_address(devices, address) {
+        return None;
+    } else if address < 0x08 || address > 0x77 || address == 0x0c {
+        let _ = rule.try_push_str(
+            "the address of a device of this profile is needed, from 0x08 to 0x77, but not 0x0c",
+        );
+    } else {
+        let _ = write!(
+            rule,
+            "no device has this address: add a [[device]] with address = 0x{address:02x}"
+        );
+    }
+    Some(rule)
+}
+
+/// Whether the table of a device has an address.
+fn is_address(devices: &[Value], address: i64) -> bool {
+    for device in devices {
+        if let Some(table) = device.as_table() {
+            if let Some(value) = table.get("address") {
+                if value.as_integer() == Some(address) {
+                    return true;
+                }
+            }
         }
     }
     false

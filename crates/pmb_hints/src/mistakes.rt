@@ -12,7 +12,7 @@ use crate::forms::{form_hint, is_of_kind};
 use crate::initial::initial_hint;
 use crate::keyed::Keyed;
 use crate::keys::{missing_code, missing_key, no_array, unknown_key, wrong_type};
-use crate::lists::{address_ignored, ignored_hint, modes_hint, one_mode_hint};
+use crate::lists::{address_ignored, also_hint, ignored_hint, modes_hint, one_mode_hint};
 use crate::numbers::{address_hint, many_hint, out_of_range, unknown_word};
 use crate::vid::{kind_of_table, vid_hint, vid_type};
 use crate::words::{
@@ -66,6 +66,8 @@ enum Mistake {
     Ignored,
     /// The address of a device is ignored.
     AddressIgnored,
+    /// One of the other addresses of a device is none of seven bits, or no device has it.
+    Also,
     /// A list of VOUT_MODE has not one for each page.
     Modes,
     /// A list of VOUT_MODE has different ones where there is one for all pages.
@@ -126,6 +128,7 @@ const VALUES_OF_DEVICE: &[Mistake] = &[
     Mistake::Modes,
     Mistake::Vid,
     Mistake::OutOfRange("phases", 1, 255),
+    Mistake::Also,
     Mistake::OneMode,
     Mistake::Key("protect", WITH_PROTECT),
 ];
@@ -147,6 +150,7 @@ const TYPES_AFTER_DIRECT: &[Mistake] = &[
     Mistake::VidType,
     Mistake::WrongType(&["phases"]),
     Mistake::WrongType(&["protect"]),
+    Mistake::WrongType(&["also"]),
 ];
 
 const NAME_OF_DEVICE: &[Mistake] = &[Mistake::Key(
@@ -352,6 +356,7 @@ impl Mistake {
             Mistake::NoArray(key, line) => no_array(keyed, key, line, lines),
             Mistake::Ignored => ignored_hint(keyed, lines),
             Mistake::AddressIgnored => address_ignored(keyed, lines),
+            Mistake::Also => also_hint(keyed, lines),
             Mistake::Modes => modes_hint(keyed, lines),
             Mistake::OneMode => one_mode_hint(keyed, lines),
             Mistake::KindOfTable => kind_of_table(keyed, lines),

@@ -12,6 +12,7 @@ use Rattle.pmb_devices.specs.declared.bus.Bus.{Bus}
 use Rattle.pmb_devices.specs.Bus.{AnsweredSignal, legs_after}
 use Rattle.pmb_devices.specs.Runs.{AllEnd}
 use Rattle.pmb_devices.specs.Signal.{BusEnds, BusLeads, BusStanding, BusStandsAt, behind}
+use Rattle.pmb_devices.proofs.RunStates.{end_devices}
 use Rattle.pmb_i2c.specs.declared.message.MessageEnd.{MessageEnd}
 use Rattle.pmb_i2c.specs.declared.message.MessageFault.{MessageFault}
 use Rattle.pmb_i2c.specs.declared.message.MessageFault.TheVariants.{NoDevice}
@@ -25,12 +26,7 @@ devices_of members = map (λ member. member.device) members
 
 -- STOP leaves them
 same_devices : (legs : Legs) (olds news : List InState) → AllEnd legs olds news → devices_of news ≡ devices_of olds
-same_devices legs [] [] all = refl
-same_devices legs [] (new ∷ news) all = elim all [ ]
-same_devices legs (old ∷ olds) [] all = elim all [ ]
-same_devices legs (old ∷ olds) (new ∷ news) all =
-    ap (λ (d : DeviceParts). d ∷ devices_of news) all.0
-    ∙ ap (λ (ds : List DeviceParts). old.device ∷ ds) (same_devices legs olds news all.2)
+same_devices legs olds news all = end_devices (devices_of olds) legs olds news all
 
 -- where a bus of these devices stands
 abbrev pub Somewhere : List DeviceParts → Bus → Type 0

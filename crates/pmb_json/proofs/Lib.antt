@@ -14,3 +14,4 @@ pub mod Fitting
 pub mod JsonSpans
 pub mod JsonLines
 pub mod OnBus
+pub mod ToldOnBus

@@ -5,10 +5,10 @@
 -- (`told_on`).
 use Rattle.std.proofs.Common.{◌≡◌, ℕ, Bool, true, false, cond, Option, Some, None, List, [], ◌∷◌, ◌++◌, flat_map, fold, map}
 use Rattle.std.proofs.Common.{refl, sym, ap, ◌∙◌, subst, append_assoc, append-nil}
-use Rattle.std.specs.Option.{is_some, option_and_then, option_map, option_or}
+use Rattle.std.specs.Option.{is_some, option_and_then, option_or}
 use Rattle.std.proofs.lemmas.Grind.{flat_map-append}
+use Rattle.std.proofs.lemmas.List.{map-append}
 use Rattle.std.proofs.lemmas.List.Sums.{fold-append}
-use Rattle.std.proofs.lemmas.Option.{none-some}
 use Rattle.pmb_command.specs.Parts.{DeviceParts, device_with}
 use Rattle.pmb_note.specs.Paging.{PagingData, RegisterTold, after_told, after_transaction, first_paging, paging}
 use Rattle.pmb_note.specs.Paging.{told, told_by_part}
@@ -21,6 +21,8 @@ use Rattle.pmb_unknown_start.specs.Phase.{last_phase, phase, phase_of, told_phas
 use Rattle.pmb_unknown_start.specs.Restores.{untells}
 use Rattle.pmb_unknown_start.specs.declared.start.Start.{Start}
 use Rattle.pmb_unknown_start.specs.declared.start.Start.TheVariants.{AllKnown, Late, LateFixedMode}
+use Rattle.pmb_unknown_start.specs.Taken.{NoneCrosses, as_taken, one_taken, taken}
+use Rattle.pmb_unknown_start.proofs.Reached.{taken_with}
 use Rattle.pmb_json.specs.Mended.{CanBeMended, IsMended}
 
 -- ---- PAGE and VOUT_MODE
@@ -160,55 +162,88 @@ module _ (start : Start) (before : List TransactionData) (past : List PastData) 
   phase_if true a b n same is = same is
   phase_if false a b n same is = is
 
-  phase_found : (addr n : ℕ) (found : Option DeviceParts)
-      → ((device : DeviceParts) → found ≡ Some device → IsMended start device before past ts)
-      → option_and_then (phase_of addr (past ++ more)) found ≡ Some n
-      → option_and_then (phase_of addr whole) found ≡ Some n
-  phase_found addr n None mended is = is
-  phase_found addr n (Some device) mended is =
-      phase_if (is_some device.phases) (last_phase addr (told_since (past ++ more)))
-      (last_phase addr (told_since whole)) n (λ last. last_stays device (mended device refl) addr n last) is
+-- what the device took of the bus: of what stood before, of what is mended, and of what came after that
+all_taken : (device : DeviceParts) (before ts : List TransactionData) (more : List PastData)
+    → NoneCrosses device (before ++ ts) → as_taken device (map Said (before ++ ts) ++ more)
+    ≡ map Said (map (taken device) before ++ map (taken device) ts) ++ as_taken device more
+all_taken device before ts more none =
+    taken_with device (before ++ ts) more none
+    ∙ ap (λ (l : List TransactionData). map Said l ++ as_taken device more) (map-append (taken device) before ts)
 
-  pub phase_mended : (profile : List DeviceParts) → CanBeMended start profile before past ts → (addr n : ℕ)
-      → phase profile (past ++ more) addr ≡ Some n → phase profile whole addr ≡ Some n
-  phase_mended profile can addr n is =
-      phase_found addr n (device_with addr profile) (λ device found. (can addr device found).1) is
-
--- .. and PAGE and VOUT_MODE, by the law `what_may_be_reached_stays_known`
 module _ (start : Start) (before : List TransactionData) (past : List PastData) (ts : List TransactionData)
     (more : List PastData) where
   abbrev on_bus : List PastData
   on_bus = map Said (before ++ ts) ++ more
 
+  -- by what a device took
+  abbrev IsMendedOf : DeviceParts → Type 0
+  IsMendedOf device = IsMended start device (map (taken device) before) (as_taken device past) (map (taken device) ts)
+
+  phase_found : (addr n : ℕ) (found : Option DeviceParts)
+      → ((device : DeviceParts) → found ≡ Some device → IsMendedOf device × NoneCrosses device (before ++ ts))
+      → option_and_then (phase_of addr (past ++ more)) found ≡ Some n
+      → option_and_then (phase_of addr on_bus) found ≡ Some n
+  phase_found addr n None mended is = is
+  phase_found addr n (Some device) mended is =
+      phase_if start (map (taken device) before) (as_taken device past) (map (taken device) ts) (as_taken device more)
+      (is_some device.phases) (last_phase addr (told_since (as_taken device (past ++ more))))
+      (last_phase addr (told_since (as_taken device on_bus))) n
+      (λ last. ap (λ (l : List PastData). last_phase addr (told_since l)) (all_taken device before ts more (mended device refl).1)
+      ∙ last_stays start (map (taken device) before) (as_taken device past) (map (taken device) ts)
+      (as_taken device more) device (mended device refl).0 addr n
+      (ap (λ (l : List PastData). last_phase addr (told_since l)) (sym (map-append (one_taken device) past more))
+      ∙ last))
+      is
+
+  pub phase_mended : (profile : List DeviceParts) → CanBeMended start profile before past ts → (addr n : ℕ)
+      → phase profile (past ++ more) addr ≡ Some n → phase profile on_bus addr ≡ Some n
+  phase_mended profile can addr n is =
+      phase_found addr n (device_with addr profile) (λ device found. ((can addr device found).1, (can addr device found).2)) is
+
+  -- .. and PAGE and VOUT_MODE, by the law `what_may_be_reached_stays_known`
+  abbrev ReachedOf : DeviceParts → Type 0
+  ReachedOf device = CanReach start device (paging device (map (taken device) before)) (as_taken device past)
+      (paging device (map (taken device) (before ++ ts)))
+
+  reach_of : (device : DeviceParts) → IsMendedOf device → ReachedOf device
+  reach_of device is =
+      subst (λ (l : List TransactionData). CanReach start device (paging device (map (taken device) before))
+      (as_taken device past) (paging device l))
+      (sym (map-append (taken device) before ts))
+      (reach device start (map (taken device) before) (as_taken device past) (map (taken device) ts) is)
+
   module _
-      (modes_stay : (device : DeviceParts) → CanBegin start device (paging device before)
-      → CanReach start device (paging device before) past (paging device (before ++ ts))
+      (modes_stay : (device : DeviceParts) → CanBegin start device (paging device (map (taken device) before))
+      → ReachedOf device → NoneCrosses device (before ++ ts)
       → StaysKnown (known_mode (known start device (past ++ more))) (known_mode (known AllKnown device on_bus))) where
     mode_found : (found : Option DeviceParts)
         → ((device : DeviceParts) → found ≡ Some device
-        → CanBegin start device (paging device before) × IsMended start device before past ts)
+        → CanBegin start device (paging device (map (taken device) before)) × IsMendedOf device
+        × NoneCrosses device (before ++ ts))
         → StaysKnown (mode_of (λ device. known start device (past ++ more)) found)
         (mode_of (λ device. known AllKnown device on_bus) found)
     mode_found None can = refl
     mode_found (Some device) can =
-        modes_stay device (can device refl).0 (reach device start before past ts (can device refl).1)
+        modes_stay device (can device refl).0 (reach_of device (can device refl).1) (can device refl).2
 
     pub mode_mended : (profile : List DeviceParts) → CanBeMended start profile before past ts → (addr : ℕ)
         → StaysKnown (mode start profile (past ++ more) addr) (mode AllKnown profile on_bus addr)
     mode_mended profile can addr = mode_found (device_with addr profile) (can addr)
 
   module _
-      (page_stays : (device : DeviceParts) (n : ℕ) → CanBegin start device (paging device before)
-      → CanReach start device (paging device before) past (paging device (before ++ ts))
+      (page_stays : (device : DeviceParts) (n : ℕ)
+      → CanBegin start device (paging device (map (taken device) before)) → ReachedOf device
+      → NoneCrosses device (before ++ ts)
       → (known start device (past ++ more)).page ≡ Some n → (known AllKnown device on_bus).page ≡ Some n) where
     page_found : (n : ℕ) (found : Option DeviceParts)
         → ((device : DeviceParts) → found ≡ Some device
-        → CanBegin start device (paging device before) × IsMended start device before past ts)
+        → CanBegin start device (paging device (map (taken device) before)) × IsMendedOf device
+        × NoneCrosses device (before ++ ts))
         → page_of (λ device. known start device (past ++ more)) found ≡ Some n
         → page_of (λ device. known AllKnown device on_bus) found ≡ Some n
     page_found n None can is = is
     page_found n (Some device) can is =
-        page_stays device n (can device refl).0 (reach device start before past ts (can device refl).1) is
+        page_stays device n (can device refl).0 (reach_of device (can device refl).1) (can device refl).2 is
 
     pub page_mended : (profile : List DeviceParts) → CanBeMended start profile before past ts → (addr n : ℕ)
         → page start profile (past ++ more) addr ≡ Some n → page AllKnown profile on_bus addr ≡ Some n

@@ -4,22 +4,19 @@
 -- what is known of PAGE, PHASE and VOUT_MODE in both (`Agree`).
 use Rattle.std.proofs.Common.{◌≡◌, ℕ, suc, ◌+◌, ◌/◌, Bool, true, false, Option, Some, None}
 use Rattle.std.proofs.Common.{List, [], ◌∷◌, ◌++◌, codes, drop, take, length, map, refl, sym}
-use Rattle.std.proofs.Common.{ap, subst, append-nil, length-take, length-drop, arith, ◌⊎◌, inl, inr}
+use Rattle.std.proofs.Common.{ap, subst, append-nil, length-take, length-drop, arith}
 use Rattle.pmb_bus.specs.declared.event.Event.{Event}
 use Rattle.pmb_bus.specs.declared.event.Event.TheVariants.{Start, Byte, Ack, Nack, Stop}
 use Rattle.pmb_bus.specs.declared.kinds.Kinds.{Kinds}
 use Rattle.pmb_command.specs.Parts.{CommandParts, DeviceParts, device_with}
 use Rattle.pmb_json_fields.specs.declared.access.Access.{Access}
 use Rattle.pmb_json_fields.specs.declared.access.Access.TheVariants as access
-use Rattle.pmb_json_fields.specs.Value.{data_members}
 use Rattle.pmb_unknown_start.specs.Certain.{StaysKnown}
-use Rattle.pmb_unknown_start.specs.declared.mode.KnownMode.{KnownMode}
 use Rattle.pmb_unknown_start.specs.declared.start.Start.{Start as LateStart}
 use Rattle.pmb_unknown_start.specs.Known.{mode, page}
 use Rattle.pmb_unknown_start.specs.Past.{PastData, Said, Dropped}
 use Rattle.pmb_unknown_start.specs.Phase.{phase}
 use Rattle.pmb_meaning.specs.Object.{says_members_of}
-use Rattle.pmb_voltage.specs.Voltage.{voltages_of}
 use Rattle.pmb_json_text.specs.Json.{boolean, null, string}
 use Rattle.pmb_json_text.specs.Member.{array_of, digits, named}
 use Rattle.pmb_places.specs.declared.places.Place.{Place}
@@ -49,7 +46,9 @@ use Rattle.pmb_fact_stream.specs.Others.{other_address}
 use Rattle.pmb_fact_stream.specs.Lines.{seen_behind}
 use Rattle.pmb_fact_stream.specs.Lost.{dropped_if}
 use Rattle.pmb_fact_stream.specs.Spans.{other_or, refused_span, span_facts}
-use Rattle.pmb_facts.specs.Fact.{FactData}
+use Rattle.pmb_facts.specs.Fact.{FactData, WhatData}
+use Rattle.pmb_facts.specs.Fact as fact
+use Rattle.pmb_facts.specs.Object.{object_of}
 use Rattle.pmb_facts.specs.Packets.{packet_facts}
 use Rattle.pmb_transaction.specs.Reading.{RefusalData}
 use Rattle.pmb_json.proofs.Losses.{LoseTheSame, LosesOne}
@@ -74,6 +73,14 @@ token_said timing head there told word = record {
   device = refl;
   members = both (head_said head there told (codes "bad_token"))
       (same (named (codes "word") (string (take 32 word)) ∷ []));
+}
+
+-- that of a packet to an address that speaks no PMBus
+pub other_said : (timing : Timing) (head there : Head) → Tells timing head.time there.time → (addr : ℕ)
+    → SaysNoMore timing (other_object head addr) (other_object there addr)
+other_said timing head there told addr = record {
+  device = refl;
+  members = both (head_said head there told (codes "other")) (same (device_member addr));
 }
 
 -- ---- lists
@@ -248,6 +255,18 @@ module _ (timing : Timing) (places : ℕ) (profile : List DeviceParts) (a b : La
           (same (right_pec_members (due_pec reason front event)));
     }
 
+    -- that of any fact
+    pub object_said : (what : WhatData) → SaysNoMore timing (object_of piece head what) (object_of whole there what)
+    object_said (fact.Write part parts p) = write_said part parts p
+    object_said (fact.Read t) = read_said t
+    object_said (fact.Call t) = call_said t
+    object_said (fact.Refused parts addr bytes at_read) = leg_said parts addr bytes at_read
+    object_said (fact.Alert t) = alert_said t
+    object_said fact.NoAlert = no_alert_said
+    object_said (fact.Other addr) = other_said timing head there told addr
+    object_said (fact.Refusal front event reason expected) = refusal_said front event reason expected
+    object_said (fact.BadToken word) = token_said timing head there told word
+
   -- ---- packets
 
   module _ (place there : ℕ → Place) (time theirs : Option (List ℕ)) (told : Tells timing time theirs) where
@@ -321,19 +340,12 @@ module _ (of_packets : PacketsHaveObjects) (timing : Timing) (choice : ChoiceDat
   abbrev Beside : List FactData → List FactData → Type 0
   Beside piece whole = FactsSayNoMore timing profile in_piece in_whole piece whole
 
-  other_said : (head beside : Head) → Tells timing head.time beside.time → (addr : ℕ)
-      → SaysNoMore timing (other_object head addr) (other_object beside addr)
-  other_said head beside told addr = record {
-    device = refl;
-    members = both (head_said head beside told (codes "other")) (same (device_member addr));
-  }
-
   -- an other, or these facts
   either_said : (m n : ℕ) (addr : Option ℕ) (own beside : List FactData) → Tells timing (times m) (theirs n)
       → Beside own beside → Beside (other_or place times m addr own) (other_or there theirs n addr beside)
   either_said m n None own beside told said = said
   either_said m n (Some addr) own beside told said =
-      (other_said (head_at place (times m) (m + 1)) (head_at there (theirs n) (n + 1)) told addr, tt)
+      (other_said timing (head_at place (times m) (m + 1)) (head_at there (theirs n) (n + 1)) told addr, tt)
 
   -- the facts of a packet
   packet_agrees : (m n : ℕ) (events : List Event) (t : TransactionData) (x y : List PastData)

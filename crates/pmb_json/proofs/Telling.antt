@@ -1,7 +1,7 @@
 -- Packets tell bytes, so PAGE and PHASE stay bytes after any of them. For the law `each_line_is_json`:
 -- they are numbers of one object's members. What a part writes has bytes below 256 by its form, and
 -- learning keeps such a PAGE and such a PHASE. A line that was dropped tells nothing.
-use Rattle.std.proofs.Common.{ℕ, ◌<◌, if◌then◌else◌, ◌&&◌, ◌||◌, length, nat_eq, nat_lt, Option, Some, None, List, [], ◌∷◌, ◌++◌}
+use Rattle.std.proofs.Common.{Bool, true, false, cond, ℕ, ◌<◌, if◌then◌else◌, ◌&&◌, ◌||◌, length, nat_eq, nat_lt, Option, Some, None, List, [], ◌∷◌, ◌++◌}
 use Rattle.std.proofs.Common.{fold, map, arith}
 use Rattle.std.specs.Prelude.{IfSome, option_and_then}
 use Rattle.std.specs.List.{AllByRecursion}
@@ -17,6 +17,7 @@ use Rattle.pmb_unknown_start.specs.Past.{PastData, Said, Dropped}
 use Rattle.pmb_unknown_start.specs.Phase.{last_phase, only_byte, phase, phase_code, phase_of, told_phase, told_since}
 use Rattle.pmb_unknown_start.specs.Phase.{told_then}
 use Rattle.pmb_unknown_start.specs.Restores.{untells}
+use Rattle.pmb_unknown_start.specs.Taken.{as_taken, is_crossed, taken, taken_part}
 use Rattle.pmb_note.specs.Paging.{RegisterTold, all_pages, page_code, told, told_by_part, vout_mode_code}
 use Rattle.pmb_json_text.specs.Spelling.{AreBytes}
 use Rattle.pmb_transaction.specs.Packet.{Packet, PartsEvents}
@@ -60,6 +61,32 @@ module _ (profile : List DeviceParts) where
   packets_tell_bytes (Refused t) events packet = told_by_each t.parts (parts_have_bytes t.parts packet.legs packet.each)
   packets_tell_bytes (Alert t) events packet = tt
   packets_tell_bytes NoAlert events packet = tt
+
+-- so does what a device takes of it
+taken_parts : (device : DeviceParts) (parts : List PartData) → AreTold (map told_by_part parts)
+    → AreTold (map told_by_part (map (taken_part device) parts))
+taken_parts device [] tell = tt
+taken_parts device (part ∷ parts) tell = (tell.0, taken_parts device parts tell.1)
+
+taken_tells : (device : DeviceParts) (t : TransactionData) → TellsBytes t → TellsBytes (taken device t)
+taken_tells device (Write parts) tell = taken_parts device parts tell
+taken_tells device (Read t) tell = tell
+taken_tells device (Call t) tell = tell
+taken_tells device (Refused t) tell = taken_parts device t.parts tell
+taken_tells device (Alert t) tell = tell
+taken_tells device NoAlert tell = tell
+
+one_tells : (device : DeviceParts) (t : TransactionData) (crossed : Bool) → TellsBytes t
+    → PastTellsBytes (cond crossed Dropped (Said (taken device t)))
+one_tells device t true tell = tt
+one_tells device t false tell = taken_tells device t tell
+
+all_taken_tell : (device : DeviceParts) (past : List PastData) → AllTellBytes past
+    → AllTellBytes (as_taken device past)
+all_taken_tell device [] tell = tt
+all_taken_tell device (Said t ∷ past) tell =
+    (one_tells device t (is_crossed device t) tell.0, all_taken_tell device past tell.1)
+all_taken_tell device (Dropped ∷ past) tell = (tt, all_taken_tell device past tell.1)
 
 -- ---- PAGE
 
@@ -149,7 +176,8 @@ page_found : (start : Start) (past : List PastData) (found : Option DeviceParts)
     → IsByteIfKnown (page_of (λ device. known start device past) found)
 page_found start past None tell = tt
 page_found start past (Some device) tell =
-    behind_past device start past (first_known start device) tell (at_first_known start)
+    behind_past device start (as_taken device past) (first_known start device) (all_taken_tell device past tell)
+    (at_first_known start)
 
 -- PAGE is a byte after what tells bytes
 pub page_is_byte : (start : Start) (profile : List DeviceParts) (past : List PastData) (addr : ℕ) → AllTellBytes past
@@ -186,8 +214,9 @@ of_found : (past : List PastData) (addr : ℕ) (found : Option DeviceParts) → 
     → IsByteIfKnown (option_and_then (phase_of addr past) found)
 of_found past addr None tell = tt
 of_found past addr (Some device) tell =
-    of_either IsByteIfKnown (is_some device.phases) (last_phase addr (told_since past)) None
-    (last_is_byte addr (told_since past) (since_told [] past tt tell)) tt
+    let own = as_taken device past in
+    of_either IsByteIfKnown (is_some device.phases) (last_phase addr (told_since own)) None
+    (last_is_byte addr (told_since own) (since_told [] own tt (all_taken_tell device past tell))) tt
 
 -- so is PHASE
 pub phase_is_byte : (profile : List DeviceParts) (past : List PastData) (addr : ℕ) → AllTellBytes past

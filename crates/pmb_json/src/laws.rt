@@ -6,10 +6,11 @@ ghost use Rattle.pmb_bus.specs.declared.event.Event.{Event};
 ghost use Rattle.pmb_capture.specs.Cut.{EndsAtCut};
 ghost use Rattle.pmb_command.specs.Bus.{IsBus};
 ghost use Rattle.pmb_command.specs.Parts.{DeviceParts, device_with};
-ghost use Rattle.pmb_facts.specs.Fact.{FactData};
+ghost use Rattle.pmb_facts.specs.Fact.{FactData, WhatData};
+ghost use Rattle.pmb_facts.specs.Object.{object_of};
 ghost use Rattle.pmb_fact_stream.specs.Before.{at_first};
 ghost use Rattle.pmb_fact_stream.specs.Choice.{ChoiceData, gives_others};
-ghost use Rattle.pmb_fact_stream.specs.Lines.{fact_lines};
+ghost use Rattle.pmb_fact_stream.specs.Lines.{fact_lines, seen_behind};
 ghost use Rattle.pmb_fact_stream.specs.Lost.{lost_in};
 ghost use Rattle.pmb_fact_stream.specs.Spans.{past_in, span_facts};
 ghost use Rattle.pmb_fact_stream.specs.declared.telling.Telling.TheVariants.{Objects};
@@ -20,6 +21,7 @@ ghost use Rattle.pmb_json.specs.Mended.{CanBeMended};
 ghost use Rattle.pmb_json.specs.Objects.{objects_of};
 ghost use Rattle.pmb_json.specs.Pieces.{CanBeCutBehind, EachSaysNoMore, EndsWithLine, IsMeaning, OtherTimes, SameTimes, SaysNoMore, TellNoMore, Timing, all_known};
 ghost use Rattle.pmb_json_objects.specs.Counts.{CountsData, end_objects};
+ghost use Rattle.pmb_json_objects.specs.Head.{Head};
 ghost use Rattle.pmb_json_objects.specs.Object.{Object, object_lines};
 ghost use Rattle.pmb_json_text.specs.Member.{Member};
 ghost use Rattle.pmb_json_text.specs.Spelling.{AreBytes};
@@ -31,7 +33,7 @@ ghost use Rattle.pmb_telling.specs.Text.{BadLine, FactsFrom, WritesTold};
 ghost use Rattle.pmb_unknown_start.specs.Certain.{CanBeCutAfter};
 ghost use Rattle.pmb_transaction.specs.Transaction.{TransactionData};
 ghost use Rattle.pmb_note.specs.Paging.{selected_mode};
-ghost use Rattle.pmb_json.specs.OnBus.{IsState, Reaches, ReachesAll, StateData, Stretch, past_of_all};
+ghost use Rattle.pmb_json.specs.OnBus.{IsState, MayBeIn, Reaches, ReachesAll, ShowsState, StateData, Stretch, past_of_all};
 ghost use Rattle.pmb_unknown_start.specs.Known.{mode, page};
 ghost use Rattle.pmb_unknown_start.specs.Past.{PastData, Said};
 ghost use Rattle.pmb_unknown_start.specs.Phase.{phase};
@@ -116,7 +118,8 @@ pub fn pieces_say_no_more()
 /// the lines had, if what follows them reads as the same packets and refusals, if after them PAGE of each device
 /// is a page that it has, or ffh; and if VOUT_MODE is taken for fixed, if on each page it is what it was before
 /// the line. Where the capture begins each device is to have such a PAGE, and if VOUT_MODE is taken for fixed that
-/// of the profile on each page. A time that the piece tells is that of the whole.
+/// of the profile on each page. No packet, whether it was lost or not, reaches a device at two of its addresses. A
+/// time that the piece tells is that of the whole.
 pub fn damaged_pieces_say_no_more()
     ensures { (choice : ChoiceData) (profile : List DeviceParts) (place there : ℕ → Place) (times theirs : ℕ → Option (List ℕ)) (before ts : List TransactionData) (within : List PastData) (n m : ℕ) (events : List Event) (spans : List Span)
         → TellNoMore n times theirs → CanBeMended choice.start profile before within ts
@@ -129,23 +132,25 @@ pub fn damaged_pieces_say_no_more()
 
 /// What is known late is so on the bus, by its events alone: PAGE, VOUT_MODE and PHASE of a device that are known
 /// before a fact are those of each state that the device may be in there. Where the capture begins it may be in any;
-/// a packet that was read acts as the rules of devices say, and a read tells what its register holds; and a leg that
-/// begins with the address of the device, for writing, may do anything in a packet that is refused, in one to a device
-/// that speaks no PMBus, and in what is passed over, as may each line that was dropped. Only PAGE is one that the
-/// device has, where the capture begins, and after each refusal and each such line. What was known before, or what was
-/// made of the capture so far, is nothing to that. The facts of spans after others go by what those say.
+/// a packet that was read acts as the rules of devices say, at the device's own address and at those of its key `also`,
+/// or in any way where it reaches the device at two of them, and a read tells what its register holds; and a leg that
+/// begins with one of these addresses, for writing, may do anything in a packet that is refused, in one to a device
+/// that speaks no PMBus, and in what is passed over, as may each line that was dropped, before what comes after it.
+/// Only PAGE is one that the device has, where the capture begins, and after each refusal and each such line; and there
+/// is one PHASE for all pages. What was known before, or what was made of the capture so far, is nothing to that. So it
+/// is under a profile that is accepted. The facts of spans after others go by what those say.
 pub fn what_is_known_late_holds_on_the_bus()
     ensures page { (profile : List DeviceParts) (addr : ℕ) (device : DeviceParts) (first mid last : StateData) (stretches : List Stretch) (n : ℕ) (events : List Event) (spans : List Span) (number : ℕ)
-        → device_with addr profile ≡ Some device → IsState device first → ReachesAll device addr first stretches mid → Reaches device addr n events mid spans last
+        → IsBus profile → device_with addr profile ≡ Some device → IsState device first → ReachesAll device first stretches mid → Reaches device n events mid spans last
         → page Late profile (past_of_all profile stretches ++ past_in (lost_in profile n events) spans) addr ≡ Some number → last.paging.page ≡ number }
     ensures mode { (profile : List DeviceParts) (addr : ℕ) (device : DeviceParts) (first mid last : StateData) (stretches : List Stretch) (n : ℕ) (events : List Event) (spans : List Span) (number : ℕ)
-        → device_with addr profile ≡ Some device → IsState device first → ReachesAll device addr first stretches mid → Reaches device addr n events mid spans last
+        → IsBus profile → device_with addr profile ≡ Some device → IsState device first → ReachesAll device first stretches mid → Reaches device n events mid spans last
         → mode Late profile (past_of_all profile stretches ++ past_in (lost_in profile n events) spans) addr ≡ Known number → selected_mode last.paging ≡ Some number }
     ensures no_mode { (profile : List DeviceParts) (addr : ℕ) (device : DeviceParts) (first mid last : StateData) (stretches : List Stretch) (n : ℕ) (events : List Event) (spans : List Span)
-        → device_with addr profile ≡ Some device → IsState device first → ReachesAll device addr first stretches mid → Reaches device addr n events mid spans last
+        → IsBus profile → device_with addr profile ≡ Some device → IsState device first → ReachesAll device first stretches mid → Reaches device n events mid spans last
         → mode Late profile (past_of_all profile stretches ++ past_in (lost_in profile n events) spans) addr ≡ NoPage → selected_mode last.paging ≡ None }
     ensures phase { (profile : List DeviceParts) (addr : ℕ) (device : DeviceParts) (first mid last : StateData) (stretches : List Stretch) (n : ℕ) (events : List Event) (spans : List Span) (number : ℕ)
-        → device_with addr profile ≡ Some device → IsState device first → ReachesAll device addr first stretches mid → Reaches device addr n events mid spans last
+        → IsBus profile → device_with addr profile ≡ Some device → IsState device first → ReachesAll device first stretches mid → Reaches device n events mid spans last
         → phase profile (past_of_all profile stretches ++ past_in (lost_in profile n events) spans) addr ≡ Some number → last.phase ≡ number }
     ensures facts { (ignored : Option (List ℕ)) (place : ℕ → Place) (times : ℕ → Option (List ℕ)) (profile : List DeviceParts) (stretches : List Stretch) (n : ℕ) (events : List Event) (spans others : List Span)
         → span_facts ignored place times (lost_in profile n events) (past_of_all profile stretches) (spans ++ others)
@@ -153,6 +158,22 @@ pub fn what_is_known_late_holds_on_the_bus()
         ++ span_facts ignored place times (lost_in profile n events) (past_of_all profile stretches ++ past_in (lost_in profile n events) spans) others }
 {
     what_is_known_is_certain();
+}
+
+/// What is told late is so on the bus, by its events alone: the object of a fact says nothing but what it would say
+/// in each state that the devices may be in there, by `what_is_known_late_holds_on_the_bus`, if that were known, or
+/// that it isn't known. So each page, phase, value and factor that it has is the one of that state, with its unit and
+/// its number. What would be known is that after other transactions, from power-up on, which leave each device in its
+/// state.
+pub fn what_is_told_late_holds_on_the_bus()
+    ensures { (choice : ChoiceData) (profile : List DeviceParts) (states : DeviceParts → StateData) (stretches : List Stretch) (n : ℕ) (events : List Event) (spans : List Span) (shown : List PastData) (head : Head) (what : WhatData)
+        → choice.start ≡ Late → IsBus profile
+        → ((addr : ℕ) (device : DeviceParts) → device_with addr profile ≡ Some device
+        → MayBeIn device stretches n events spans (states device) × ShowsState profile shown addr device (states device))
+        → SaysNoMore SameTimes (object_of (seen_behind choice profile (past_of_all profile stretches ++ past_in (lost_in profile n events) spans)) head what)
+        (object_of (seen_behind (all_known choice) profile shown) head what) }
+{
+    what_is_known_late_holds_on_the_bus();
 }
 
 /// Where a capture is cut so that the rest is read late, the facts of the whole are some, and then one for

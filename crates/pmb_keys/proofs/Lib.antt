@@ -1,4 +1,6 @@
+pub mod Steps
 pub mod Arrays
-pub mod IgnoredFlags
+pub mod AddressFlags
+pub mod Named
 pub mod InitialFaults
 pub mod NamedBits

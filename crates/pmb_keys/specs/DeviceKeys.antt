@@ -11,6 +11,7 @@ use Rattle.pmb_command.specs.declared.pec_mode.PecMode.{PecMode}
 use Rattle.pmb_command.specs.declared.pec_mode.PecMode.TheVariants.{Off, On, Optional}
 use Rattle.pmb_command.specs.Parts.{VidParts}
 use Rattle.pmb_keys.specs.CommandRules.{byte_rule, word_rule, coefficients, of_words}
+use Rattle.pmb_keys.specs.Addresses.{also_rule}
 use Rattle.pmb_keys.specs.VidRule.{vid_rule}
 use Rattle.pmb_keys.specs.Rules.{bind, or_fault, unless, natural_within, only, typed, required, optional, defaulted}
 use Rattle.pmb_keys.specs.Rules.{each_of, item_count}
@@ -20,7 +21,7 @@ abbrev pub device_key_names : List (List ℕ)
 device_key_names =
     codes "address" ∷ codes "pec" ∷ codes "pages" ∷ codes "vout_mode" ∷ codes "standard" ∷ codes "vout_direct"
     ∷ codes "command"
-    ∷ codes "name" ∷ codes "vid" ∷ codes "phases" ∷ codes "protect" ∷ []
+    ∷ codes "name" ∷ codes "vid" ∷ codes "phases" ∷ codes "protect" ∷ codes "also" ∷ []
 
 -- 08h to 77h without 0ch (SMBus 3.0 appendix C: the others are reserved, and 0ch is the Alert
 -- Response Address), no earlier device's, and none of those that are ignored
@@ -81,10 +82,12 @@ pub record DeviceKeys : Type 0 where
   pub vid : Option VidParts
   pub phases : Option ℕ
   pub protect : Bool
+  pub also : List ℕ
 
--- the keys that may be there, each ruled in its turn, after those that have to be
-abbrev pub other_keys : ℕ → PecMode → Members → Result DeviceKeys FaultKind
-other_keys address pec ms =
+-- the keys that may be there, each ruled in its turn, after those that have to be, where the tables of the
+-- profile's devices name these addresses
+abbrev pub other_keys : List ℕ → ℕ → PecMode → Members → Result DeviceKeys FaultKind
+other_keys named address pec ms =
     bind (defaulted pages_rule 1 (codes "pages") ms) (λ pages.
     bind (defaulted (modes_rule pages) (replicate pages 0x17) (codes "vout_mode") ms) (λ modes.
     bind (defaulted (typed as_bool) true (codes "standard") ms) (λ standard.
@@ -94,6 +97,7 @@ other_keys address pec ms =
     bind (optional (vid_rule pages) (codes "vid") ms) (λ vid.
     bind (optional phases_rule (codes "phases") ms) (λ phases.
     bind (defaulted (typed as_bool) false (codes "protect") ms) (λ protect.
+    bind (defaulted (also_rule named) [] (codes "also") ms) (λ also.
     Ok (record {
       address = address;
       pec = pec;
@@ -106,13 +110,14 @@ other_keys address pec ms =
       vid = vid;
       phases = phases;
       protect = protect;
-    }))))))))))
+      also = also;
+    })))))))))))
 
--- each key ruled in its turn, where earlier devices have the addresses `taken`, and those in `ignored`
--- are none of devices
-abbrev pub device_keys : List ℕ → List ℕ → Members → Result DeviceKeys FaultKind
-device_keys taken ignored ms =
+-- each key ruled in its turn, where earlier devices have the addresses `taken`, those in `ignored` are none
+-- of devices, and the tables of the profile's devices name those in `named`
+abbrev pub device_keys : List ℕ → List ℕ → List ℕ → Members → Result DeviceKeys FaultKind
+device_keys taken ignored named ms =
     bind (only device_key_names ms) (λ _.
     bind (required (address_rule taken ignored) (codes "address") ms) (λ address.
     bind (required (word_rule faults.BadValue pec_words) (codes "pec") ms) (λ pec.
-    other_keys address pec ms)))
+    other_keys named address pec ms)))

@@ -18,4 +18,5 @@ keys_parts k = record {
   vid = option_map vid_parts k.vid;
   phases = k.phases;
   protect = k.protect;
+  also = k.also;
 }

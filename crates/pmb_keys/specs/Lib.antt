@@ -4,7 +4,7 @@ pub mod CommandView
 pub mod DeviceKeys
 pub mod DeviceKeysView
 pub mod FurtherKeys
-pub mod IgnoreRule
+pub mod Addresses
 pub mod VidRule
 pub mod VidView
 pub mod machine

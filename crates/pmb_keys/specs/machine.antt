@@ -1,5 +1,5 @@
 -- What the code's own types stand for.
 pub mod FurtherView
-pub mod Ignored
+pub mod Addresses
 pub mod KindWords
 pub mod Typed

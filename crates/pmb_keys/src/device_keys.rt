@@ -15,9 +15,9 @@ ghost use Rattle.pmb_keys.specs.DeviceKeys.{address_rule, pec_words, pages_rule,
 ghost use Rattle.pmb_keys.specs.DeviceKeysView.{keys_parts};
 ghost use Rattle.pmb_keys.specs.VidView.{vid_parts};
 
+use crate::addresses::{Addresses, read_also};
 use crate::device_name::read_name;
 use crate::fault::FaultKind;
-use crate::ignored::Ignored;
 use crate::modes::{Modes, read_modes};
 use crate::rules;
 use crate::unsigned_key::{of_words, read_flag};
@@ -49,16 +49,19 @@ pub struct DeviceKeys<'a> {
     pub phases: Option<u8>,
     /// Whether it keeps to WRITE_PROTECT.
     pub protect: bool,
+    /// The other addresses at which its part takes what is written.
+    pub also: Addresses,
 }
 
-/// The keys of a value's table, where earlier devices have the addresses `taken`, and no device has one
-/// that is ignored.
+/// The keys of a value's table, where earlier devices have the addresses `taken`, no device has one that
+/// is ignored, and the tables of all devices name those in `named`.
 pub fn read_device_keys<'a>(
     value: &'a Value,
     taken: &[u8],
-    ignored: &Ignored,
+    ignored: &Addresses,
+    named: &Addresses,
 ) -> Result<DeviceKeys<'a>, FaultKind>
-    ensures read { bind result (λ k. Ok (keys_parts k)) ≡ bind (typed as_table (view value.entry.now)) (device_keys taken.now ignored.now) }
+    ensures read { bind result (λ k. Ok (keys_parts k)) ≡ bind (typed as_table (view value.entry.now)) (device_keys taken.now ignored.now named.now) }
     ensures address { IfOk result (λ k. IsDeviceAddress k.address) }
     ensures own_address { IfOk result (λ k. IsNew k.address taken.now) }
     ensures not_ignored { IfOk result (λ k. IsNew k.address ignored.now) }
@@ -68,16 +71,17 @@ pub fn read_device_keys<'a>(
     ensures tables { IfOk result (λ k. HasTableForEach k.pages (option_map vid_parts k.vid)) }
     ensures phases { IfOk result (λ k. IfSome k.phases (λ n. (1 ≤ n) × (n ≤ 255))) }
 {
-    device_keys(rules::table_of(value)?, taken, ignored)
+    device_keys(rules::table_of(value)?, taken, ignored, named)
 }
 
 /// The keys of a device's table, each ruled in its turn.
 fn device_keys<'a>(
     table: &'a Table,
     taken: &[u8],
-    ignored: &Ignored,
+    ignored: &Addresses,
+    named: &Addresses,
 ) -> Result<DeviceKeys<'a>, FaultKind>
-    ensures read { bind result (λ k. Ok (keys_parts k)) ≡ device_keys taken.now ignored.now (table_view table.now) }
+    ensures read { bind result (λ k. Ok (keys_parts k)) ≡ device_keys taken.now ignored.now named.now (table_view table.now) }
     ensures address { IfOk result (λ k. IsDeviceAddress k.address) }
     ensures own_address { IfOk result (λ k. IsNew k.address taken.now) }
     ensures not_ignored { IfOk result (λ k. IsNew k.address ignored.now) }
@@ -99,17 +103,23 @@ fn device_keys<'a>(
         "vid",
         "phases",
         "protect",
+        "also",
     ];
     rules::only(table, &known)?;
     let address = address(table, taken, ignored)?;
     let pec = pec(table)?;
-    other_keys(table, address, pec)
+    other_keys(table, address, pec, named)
 }
 
 /// The keys of a device's table that may be there, each ruled in its turn, after those that have
 /// to be.
-fn other_keys(table: &Table, address: u8, pec: PecMode) -> Result<DeviceKeys<'_>, FaultKind>
-    ensures read { bind result (λ k. Ok (keys_parts k)) ≡ other_keys address pec (table_view table.now) }
+fn other_keys<'a>(
+    table: &'a Table,
+    address: u8,
+    pec: PecMode,
+    named: &Addresses,
+) -> Result<DeviceKeys<'a>, FaultKind>
+    ensures read { bind result (λ k. Ok (keys_parts k)) ≡ other_keys named.now address pec (table_view table.now) }
     ensures address { IfOk result (λ k. k.address ≡ address) }
     ensures pages { IfOk result (λ k. (1 ≤ k.pages) × (k.pages ≤ 32)) }
     ensures mode_of_each { IfOk result (λ k. length k.modes.items ≡ k.pages) }
@@ -126,6 +136,7 @@ fn other_keys(table: &Table, address: u8, pec: PecMode) -> Result<DeviceKeys<'_>
     let vid = read_vid(table, pages)?;
     let phases = phases(table)?;
     let protect = protect(table)?;
+    let also = read_also(table, named)?;
     Ok(DeviceKeys {
         address,
         pec,
@@ -138,11 +149,12 @@ fn other_keys(table: &Table, address: u8, pec: PecMode) -> Result<DeviceKeys<'_>
         vid,
         phases,
         protect,
+        also,
     })
 }
 
 /// The address of a device, which has to give it.
-fn address(table: &Table, taken: &[u8], ignored: &Ignored) -> Result<u8, FaultKind>
+fn address(table: &Table, taken: &[u8], ignored: &Addresses) -> Result<u8, FaultKind>
     ensures read { result ≡ required (address_rule taken.now ignored.now) (codes "address") (table_view table.now) }
     ensures address { IfOk result IsDeviceAddress }
     ensures own_address { IfOk result (λ a. IsNew a taken.now) }
@@ -153,7 +165,7 @@ fn address(table: &Table, taken: &[u8], ignored: &Ignored) -> Result<u8, FaultKi
 
 /// An address of 7 bits that is not reserved (SMBus 3.0 appendix C), or BadAddress; no earlier
 /// device's, or AddressTwice; and none that is ignored, or BadValue.
-fn address_rule(value: &Value, taken: &[u8], ignored: &Ignored) -> Result<u8, FaultKind>
+fn address_rule(value: &Value, taken: &[u8], ignored: &Addresses) -> Result<u8, FaultKind>
     ensures read { result ≡ address_rule taken.now ignored.now (view value.now) }
     ensures address { IfOk result IsDeviceAddress }
     ensures own_address { IfOk result (λ a. IsNew a taken.now) }

@@ -253,6 +253,11 @@ abbrev pub protect_line : Bool → List ℕ
 protect_line false = []
 protect_line true = field (codes "protect") (codes "yes")
 
+-- the other addresses at which its part takes what is written, where there are some
+abbrev pub also_line : List ℕ → List ℕ
+also_line [] = []
+also_line (address ∷ addresses) = field (codes "also") (addresses_word (address ∷ addresses))
+
 -- the last keys of a device
 abbrev pub device_end : DeviceParts → List ℕ
 device_end device =
@@ -260,7 +265,8 @@ device_end device =
     ++ (vid_lines device.vid
     ++ (phases_line device.phases
     ++ (protect_line device.protect
-    ++ field (codes "commands") (decimal (length device.commands)))))
+    ++ (also_line device.also
+    ++ field (codes "commands") (decimal (length device.commands))))))
 
 -- the keys of a device
 abbrev pub device_keys : ℕ → DeviceParts → List ℕ

@@ -6,6 +6,7 @@ ghost use Rattle.std.specs.Prelude.{◌≡◌, ◌+◌, ◌≤◌, ◌<◌, ◌+
 ghost use Rattle.pmb_profile_text.specs.Table.{address_text, device_end, device_head, field, name_line, phases_line, protect_line};
 ghost use Rattle.pmb_profile_text.specs.Words.{digits};
 
+use crate::addresses::append_also;
 use crate::row::{Row, append, append_byte, append_cell, append_number};
 use crate::vid::append_vid;
 use crate::words::{pec_word, vout_direct_word};
@@ -39,6 +40,7 @@ pub(crate) fn device_end(device: &DeviceProfile) -> Row
     append_vid(&mut end, device);
     append_phases(&mut end, device);
     append_protect(&mut end, device);
+    append_also(&mut end, device.also().addresses().as_slice());
     append_count(&mut end, b"commands", device.len());
     end
 }

@@ -11,6 +11,7 @@
 //! ```
 #![tactic(auto)]
 
+mod addresses;
 mod bus;
 mod bus_head;
 mod command_row;

@@ -3,12 +3,15 @@
 -- In PMBus Part II 1.3, PAGE is in section 11.10, CLEAR_FAULTS in section 15.1, how the bits of a
 -- status register are cleared in section 10.2, STATUS_CML in chapter 17, and WRITE_PROTECT in section
 -- 11.1. That a device keeps what is written to it, and acts in no other way, is this project's own
--- rule, and so is what becomes of a write that is disabled.
-use Rattle.std.specs.Prelude.{ℕ, ◌-◌, Bool, true, false, ◌&&◌, ◌||◌, if◌then◌else◌, Option, Some, None, Result, Ok, Err}
-use Rattle.std.specs.Prelude.{List, [], ◌∷◌, is_some, map, nat_eq}
+-- rule, and so is what becomes of a write that is disabled. What a device takes at other addresses than
+-- its own, and when, is this project's own rule too.
+use Rattle.std.specs.Prelude.{ℕ, ◌-◌, Bool, true, false, ◌&&◌, ◌||◌, if◌then◌else◌, Option, Some, None, Result}
+use Rattle.std.specs.Prelude.{Ok, Err, List, [], ◌∷◌, is_some, map, nat_eq}
+use Rattle.std.specs.List.{find}
 use Rattle.std.specs.Int.Bits.{bit_and, bit_or}
 use Rattle.pmb_command.specs.declared.form.Form.TheVariants.{Zero}
 use Rattle.pmb_command.specs.Fitting.{is_form, is_status_kind}
+use Rattle.pmb_command.specs.Forms.{has_write}
 use Rattle.pmb_command.specs.Parts.{CommandParts, DeviceParts, command_with}
 use Rattle.pmb_transaction.specs.Transaction.{PartData, RefusedData, TransactionData, Write, Read, Call, Refused, Alert}
 use Rattle.pmb_transaction.specs.Transaction.{NoAlert}
@@ -121,6 +124,17 @@ abbrev pub bit_of_refused : DeviceParts → DeviceState → List ℕ → Bool �
 bit_of_refused device state sent false = bit_of_sent sent
 bit_of_refused device state sent true = bit_of_answer (answer device state sent)
 
+-- ---- what a write at another address does
+
+-- What a complete write does that came to another address: the same as at the device's own, where the device
+-- has such a write, and else nothing.
+abbrev pub after_other : DeviceParts → ℕ → List ℕ → DeviceState → DeviceState
+after_other device code bytes state = if has_write device code bytes then after_write device code bytes state else state
+
+-- the first of complete parts that came to an address
+abbrev pub part_to : ℕ → List PartData → Option PartData
+part_to address parts = find (λ part. nat_eq part.addr address) parts
+
 -- ---- what a transaction does
 
 module _ (device : DeviceParts) where
@@ -140,13 +154,26 @@ module _ (device : DeviceParts) where
       if nat_eq t.addr device.address then with_noted device (bit_of_refused device state t.sent t.at_read) state else
       state
 
+  -- what was written at an address, if anything, where that is not the device's own
+  abbrev pub after_at : ℕ → Option PartData → DeviceState → DeviceState
+  after_at address None state = state
+  after_at address (Some part) state = if nat_eq address device.address then state else
+      after_other device part.code part.bytes state
+
+  -- complete parts at other addresses, in the order of these
+  abbrev pub after_others : List ℕ → List PartData → DeviceState → DeviceState
+  after_others [] parts state = state
+  after_others (address ∷ also) parts state =
+      after_others also parts (after_at address (part_to address parts) state)
+
   -- What a transaction makes of a device's state: each complete part acts, and a refused leg is
-  -- noted. A read, a call and the answer to an alert change nothing.
+  -- noted; and then the parts that came to its other addresses act. A read, a call and the answer to
+  -- an alert change nothing.
   abbrev pub apply : TransactionData → DeviceState → DeviceState
-  apply (Write parts) state = after_parts parts state
+  apply (Write parts) state = after_others device.also parts (after_parts parts state)
   apply (Read t) state = state
   apply (Call t) state = state
-  apply (Refused t) state = after_refusal t (after_parts t.parts state)
+  apply (Refused t) state = after_others device.also t.parts (after_refusal t (after_parts t.parts state))
   apply (Alert t) state = state
   apply NoAlert state = state
 

@@ -1,6 +1,6 @@
 //! What a device's profile says of a command.
 
-ghost use Rattle.std.specs.Prelude.{◌≡◌, is_some, option_map};
+ghost use Rattle.std.specs.Prelude.{◌≡◌, is_some};
 ghost use Rattle.pmb_command.specs.Fitting.{is_form, register_form};
 ghost use Rattle.pmb_command.specs.Parts.{command_with};
 ghost use Rattle.pmb_command.specs.declared.form.Form.{Form};

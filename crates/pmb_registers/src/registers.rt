@@ -13,7 +13,7 @@ ghost use Rattle.pmb_transaction.specs.Transaction.{part_data, transaction_data}
 ghost use Rattle.pmb_registers.specs.State.{first_state, held, register};
 ghost use Rattle.pmb_registers.specs.Answer.{answer};
 ghost use Rattle.pmb_registers.specs.Protection.{is_enabled};
-ghost use Rattle.pmb_registers.specs.Apply.{after_enabled, after_part, after_parts, after_write, apply, bit_of_refused, bit_of_sent, changed, is_status, selected_by, with_bit, with_noted};
+ghost use Rattle.pmb_registers.specs.Apply.{after_at, after_enabled, after_other, after_others, after_part, after_parts, after_write, apply, bit_of_refused, bit_of_sent, changed, is_status, part_to, selected_by, with_bit, with_noted};
 ghost use Rattle.pmb_registers.specs.Reply.{answer_bytes, reply_bytes};
 ghost use Rattle.pmb_registers.specs.machine.Registers.{HasRoom, change_of, register_data};
 ghost use Rattle.pmb_registers.specs.machine.Places.{IsPlaceOf};
@@ -197,6 +197,19 @@ impl<'p> Registers<'p> {
         }
     }
 
+    /// A complete write of a code and its data, up to 255 bytes, that came to another address at which
+    /// the device's part takes what is written. It acts as one at the device's own address where the
+    /// device has such a write: the command, in a form that takes these data, and of PAGE a value that
+    /// is one of its pages or ffh. Else it does nothing.
+    pub fn write_other(&mut self, code: u8, bytes: &[u8])
+        requires { length bytes.now ≤ 255 }
+        ensures { self.new ≡ record self.old { state = after_other self.old.device code bytes.now self.old.state } }
+    {
+        if self.device.has_write(code, bytes) {
+            self.write(code, bytes);
+        }
+    }
+
     /// What a complete write does that is enabled.
     fn write_enabled(&mut self, code: u8, bytes: &[u8])
         requires { length bytes.now ≤ 255 }
@@ -260,12 +273,15 @@ impl<'p> Registers<'p> {
     }
 
     /// What a transaction makes of the state: each part that is the device's acts, in their order,
-    /// and a leg that it refused is noted.
+    /// and a leg that it refused is noted. Then the parts that came to its other addresses act.
     pub fn apply(&mut self, transaction: &Transaction)
         ensures { self.new ≡ record self.old { state = apply self.old.device (transaction_data transaction.now) self.old.state } }
     {
         match transaction {
-            Transaction::Write { parts } => self.apply_parts(parts.as_slice()),
+            Transaction::Write { parts } => {
+                self.apply_parts(parts.as_slice());
+                self.apply_others(parts.as_slice());
+            }
             Transaction::Refused {
                 parts,
                 addr,
@@ -274,6 +290,7 @@ impl<'p> Registers<'p> {
             } => {
                 self.apply_parts(parts.as_slice());
                 self.apply_refusal(*addr, sent.as_slice(), *at_read);
+                self.apply_others(parts.as_slice());
             }
             Transaction::Read { .. }
             | Transaction::Call { .. }
@@ -297,6 +314,28 @@ impl<'p> Registers<'p> {
     {
         if part.addr == self.device.address() {
             self.write(part.code, part.bytes.as_slice());
+        }
+    }
+
+    /// What complete parts at its other addresses make of it.
+    fn apply_others(&mut self, parts: &[Part])
+        ensures { self.new ≡ record self.old { state = after_others self.old.device self.old.device.also (map part_data parts.now) self.old.state } }
+    {
+        let also = self.device.also().addresses();
+        for address in also.as_slice() {
+            self.apply_at(*address, parts);
+        }
+    }
+
+    /// What the first part with an address makes of it, if that isn't the device's own.
+    fn apply_at(&mut self, address: u8, parts: &[Part])
+        ensures { self.new ≡ record self.old { state = after_at self.old.device address (part_to address (map part_data parts.now)) self.old.state } }
+    {
+        if address == self.device.address() {
+            return;
+        }
+        if let Some(part) = part_to(parts, address) {
+            self.write_other(part.code, part.bytes.as_slice());
         }
     }
 
@@ -328,6 +367,18 @@ impl<'p> Registers<'p> {
             Err(bit) => Some(bit),
         }
     }
+}
+
+/// The first of complete parts that came to an address.
+fn part_to(parts: &[Part], address: u8) -> Option<&Part>
+    ensures { option_map (λ part. part_data part.now) result ≡ part_to address (map part_data parts.now) }
+{
+    for part in parts {
+        if part.addr == address {
+            return Some(part);
+        }
+    }
+    None
 }
 
 /// The bit for which the last of these bytes after an address was refused: the code, the value of

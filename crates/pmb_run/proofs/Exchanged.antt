@@ -21,7 +21,7 @@ use Rattle.pmb_transaction.specs.Transaction.{CallData, PartData, ReadData, Refu
 use Rattle.pmb_transaction.specs.Transaction.{Call, Refused, Alert, NoAlert}
 use Rattle.pmb_registers.specs.declared.cml_bit.CmlBit.{CmlBit}
 use Rattle.pmb_registers.specs.Answer.{answer}
-use Rattle.pmb_registers.specs.Apply.{after_parts}
+use Rattle.pmb_registers.specs.Apply.{after_parts, after_refusal}
 use Rattle.pmb_registers.specs.State.{InState}
 use Rattle.pmb_devices.specs.Signal.{all_applied}
 use Rattle.pmb_devices.proofs.ReplyForms.{called_taken, read_taken}
@@ -45,7 +45,8 @@ use Rattle.pmb_exchange.proofs.Pages.{page_body}
 use Rattle.pmb_exchange.proofs.Parts.{HasLeg, all_parts, distinct_front, have_legs, legs_events, new_address}
 use Rattle.pmb_exchange.proofs.Parts.{parts_events}
 use Rattle.pmb_host.specs.Signals.{part_bytes}
-use Rattle.pmb_run.proofs.Members.{IsMember, all_good_after, of_contained, parts_good, refusal_good, same_device}
+use Rattle.pmb_run.proofs.Members.{IsMember, all_good_after, of_contained, others_stay_good, parts_good}
+use Rattle.pmb_run.proofs.Members.{refusal_good, same_device}
 use Rattle.pmb_run.proofs.Replies.{reply_small}
 
 -- ---- replies
@@ -152,8 +153,12 @@ module _ (profile : List DeviceParts) (members : List InState) (bus : IsBus prof
         end = Done Written;
         ends = (Written, refl, refl);
         after = all_good_after (Write parts) members
-            (λ m at is. parts_good profile members bus devices_are m at is.accepted parts legs taken m.state is.good)
-            all;
+            (
+            λ m at is.
+            others_stay_good profile members bus devices_are m at is.accepted parts legs
+            (after_parts m.device parts m.state)
+            (parts_good profile members bus devices_are m at is.accepted parts legs taken m.state is.good)
+            ) all;
       }
 
   part_ends : (before : List PartData) (part : PartData) (behind : List PartData)
@@ -216,8 +221,10 @@ module _ (profile : List DeviceParts) (members : List InState) (bus : IsBus prof
         after = all_good_after (Refused t) members
             (
             λ m at is.
-            refusal_good profile members bus devices_are m at is.accepted t (after_parts m.device before m.state)
-            (parts_good profile members bus devices_are m at is.accepted before legs.0 taken m.state is.good)
+            others_stay_good profile members bus devices_are m at is.accepted before legs.0
+            (after_refusal m.device t (after_parts m.device before m.state))
+            (refusal_good profile members bus devices_are m at is.accepted t (after_parts m.device before m.state)
+            (parts_good profile members bus devices_are m at is.accepted before legs.0 taken m.state is.good))
             ) all;
       }
 
@@ -249,7 +256,11 @@ module _ (profile : List DeviceParts) (members : List InState) (bus : IsBus prof
         end = Failed (faults.Refused 2 0 true);
         ends = refl;
         after = all_good_after (Refused t) members
-            (λ m at is. refusal_good profile members bus devices_are m at is.accepted t m.state is.good) all;
+            (
+            λ m at is.
+            others_stay_good profile members bus devices_are m at is.accepted [] tt (after_refusal m.device t m.state)
+            (refusal_good profile members bus devices_are m at is.accepted t m.state is.good)
+            ) all;
       }
 
   module _ (t : ReadData) (asked : IsAsked (Read t)) (address : ℕ) (body : List ℕ) where

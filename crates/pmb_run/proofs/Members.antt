@@ -17,8 +17,8 @@ use Rattle.pmb_command.specs.Wire.{AreByteValues}
 use Rattle.pmb_transaction.specs.Body.{forms}
 use Rattle.pmb_transaction.specs.Transaction.{PartData, RefusedData, TransactionData}
 use Rattle.pmb_registers.specs.Answer.{all_pages}
-use Rattle.pmb_registers.specs.Apply.{after_part, after_parts, after_refusal, after_write, apply, bit_of_refused}
-use Rattle.pmb_registers.specs.Apply.{selected_by, with_noted}
+use Rattle.pmb_registers.specs.Apply.{after_others, after_part, after_parts, after_refusal, after_write, apply}
+use Rattle.pmb_registers.specs.Apply.{bit_of_refused, selected_by, with_noted}
 use Rattle.pmb_registers.specs.State.{DeviceState, InState, first_bytes, first_mode, first_page, own_pages}
 use Rattle.pmb_registers.specs.State.{registers_in, registers_of, zeros}
 use Rattle.pmb_devices.specs.Replies.{IsState}
@@ -29,7 +29,8 @@ use Rattle.pmb_exchange.specs.Exchange.{IsTaken}
 use Rattle.pmb_exchange.proofs.Members.{found_with}
 use Rattle.pmb_exchange.proofs.Parts.{HasLeg}
 use Rattle.pmb_run.specs.Kept.{AreKeptDevices, IsKeptCommand, IsKeptDevice}
-use Rattle.pmb_run.proofs.States.{HoldsBytes, IsGood, if_good, noted_good, page_is, write_good}
+use Rattle.pmb_run.proofs.States.{HasSmallData, HoldsBytes, IsGood, if_good, noted_good, others_good, page_is}
+use Rattle.pmb_run.proofs.States.{write_good}
 
 -- ---- what registers begin with
 
@@ -227,7 +228,17 @@ module _ (profile : List DeviceParts) (members : List InState) (bus : IsBus prof
     parts_good (part ∷ parts) has taken state good =
         parts_good parts has.1 taken.1 (after_part m.device part state) (part_good part has.0 taken.0 state good)
 
-    -- and so is what a refusal makes of it.
+    -- so is what those at its other addresses make of it,
+    small_legs : (parts : List PartData) → AllByRecursion (HasLeg profile) parts → AllByRecursion HasSmallData parts
+    small_legs [] has = tt
+    small_legs (part ∷ parts) has = (has.0.allowed.fits.small, small_legs parts has.1)
+
+    pub others_stay_good : (parts : List PartData) → AllByRecursion (HasLeg profile) parts → (state : DeviceState)
+        → IsGood m.device state → IsGood m.device (after_others m.device m.device.also parts state)
+    others_stay_good parts has state good =
+        others_good m.device accepted parts (small_legs parts has) m.device.also state good
+
+    -- and what a refusal makes of it.
     pub refusal_good : (t : RefusedData) (state : DeviceState) → IsGood m.device state
         → IsGood m.device (after_refusal m.device t state)
     refusal_good t state good =

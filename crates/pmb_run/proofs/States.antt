@@ -16,17 +16,20 @@ use Rattle.pmb_command.specs.Fitting.{is_form, register_form, same_form}
 use Rattle.pmb_command.specs.Parts.{CommandParts, DeviceParts, command_with}
 use Rattle.pmb_command.specs.Wire.{AreByteValues, Fits, Takes}
 use Rattle.pmb_transaction.specs.Body.{forms, shape_of}
+use Rattle.pmb_transaction.specs.Transaction.{PartData}
 use Rattle.pmb_registers.specs.declared.cml_bit.CmlBit.{CmlBit}
 use Rattle.pmb_registers.specs.declared.cml_bit.CmlBit.TheVariants.{BadCommand, BadValue, PecFailed}
 use Rattle.pmb_registers.specs.Answer.{all_pages}
-use Rattle.pmb_registers.specs.Apply.{after_enabled, after_write, bit_value, changed, cleared_bits, is_status, reaches}
-use Rattle.pmb_registers.specs.Apply.{selected_by, with_bit, with_noted}
+use Rattle.pmb_registers.specs.Apply.{after_at, after_enabled, after_other, after_others, after_write, bit_value}
+use Rattle.pmb_command.specs.Forms.{has_write}
+use Rattle.pmb_registers.specs.Apply.{changed, cleared_bits, is_status, part_to, reaches, selected_by}
+use Rattle.pmb_registers.specs.Apply.{with_bit, with_noted}
 use Rattle.pmb_registers.specs.Protection.{is_enabled}
 use Rattle.pmb_registers.specs.State.{DeviceState, RegisterData}
 use Rattle.pmb_device.proofs.Requests.{page_form}
 use Rattle.pmb_devices.specs.Replies.{IsState}
 use Rattle.pmb_devices.proofs.Commands.{command_is, flip_zero, written_register}
-use Rattle.pmb_devices.proofs.FittingStates.{has_changed}
+use Rattle.pmb_devices.proofs.FittingStates.{has_changed, has_write_so}
 
 -- a register holds bytes
 abbrev pub HoldsBytes : RegisterData → Type 0
@@ -91,6 +94,27 @@ module _ (selected : ℕ) (codes : ℕ → Bool) (change : List ℕ → List ℕ
       → AllByRecursion HoldsBytes (changed selected codes change rs)
   changed_small [] all = tt
   changed_small (r ∷ rs) all = (one_small (codes r.code && reaches selected r.page) r all.0, changed_small rs all.1)
+
+-- ---- parts whose data are bytes
+
+-- the data of a part are bytes
+abbrev pub HasSmallData : PartData → Type 0
+HasSmallData part = AreByteValues part.bytes
+
+abbrev pub HaveSmallData : Option PartData → Type 0
+HaveSmallData None = Unit {0}
+HaveSmallData (Some part) = HasSmallData part
+
+small_one : (test : Bool) (part : PartData) (found : Option PartData) → HasSmallData part → HaveSmallData found
+    → HaveSmallData (cond test (Some part) found)
+small_one true part found here there = here
+small_one false part found here there = there
+
+small_to : (address : ℕ) (parts : List PartData) → AllByRecursion HasSmallData parts
+    → HaveSmallData (part_to address parts)
+small_to address [] small = tt
+small_to address (part ∷ parts) small =
+    small_one (nat_eq part.addr address) part (part_to address parts) small.0 (small_to address parts small.1)
 
 -- ---- states
 
@@ -221,3 +245,32 @@ module _ (device : DeviceParts) where
           (with_bit device BadValue before)
           (λ enabled. enabled_good valid)
           (λ disabled. bit_good BadValue)
+
+    -- So is what came to another address, whose data are bytes.
+    other_good : IsDevice device → (code : ℕ) (content : List ℕ) → AreByteValues content
+        → IsGood device (after_other device code content before)
+    other_good accepted code content small =
+        if_good (has_write device code content) (after_write device code content before) before
+        (
+        λ has.
+        let such = has_write_so device before.page code content has in
+        write_good accepted code content such.form such.written
+        (record { small = small; taken = such.fitting }) such.selects
+        )
+        (λ none. good)
+
+  -- ---- what came to other addresses
+
+  at_good : IsDevice device → (address : ℕ) (written : Option PartData) (before : DeviceState) → HaveSmallData written
+      → IsGood device before → IsGood device (after_at device address written before)
+  at_good accepted address None before small good = good
+  at_good accepted address (Some part) before small good =
+      if_good (nat_eq address device.address) before (after_other device part.code part.bytes before)
+      (λ own. good) (λ other. other_good before good accepted part.code part.bytes small)
+
+  pub others_good : IsDevice device → (parts : List PartData) → AllByRecursion HasSmallData parts → (also : List ℕ)
+      (before : DeviceState) → IsGood device before → IsGood device (after_others device also parts before)
+  others_good accepted parts small [] before good = good
+  others_good accepted parts small (address ∷ also) before good =
+      others_good accepted parts small also (after_at device address (part_to address parts) before)
+      (at_good accepted address (part_to address parts) before (small_to address parts small) good)

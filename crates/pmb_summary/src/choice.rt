@@ -5,7 +5,7 @@
 use pmb_decimal::Digits;
 use pmb_scan::AfterBadToken;
 use pmb_stats_counts::Fail;
-use pmb_table::Ignored;
+use pmb_table::Addresses;
 use pmb_unknown_start::Start;
 
 /// How the sums of a capture are wanted.
@@ -19,7 +19,7 @@ pub struct SumsChoice<'c> {
     /// sums of the whole, and what makes the status 1, are of all devices.
     pub devices: &'c [u8],
     /// The addresses that speak no PMBus, where the profile says which these are.
-    pub ignored: Option<&'c Ignored>,
+    pub ignored: Option<&'c Addresses>,
     /// Whether reading ends at a word that is no token, or continues with the next line.
     pub after_bad_token: AfterBadToken,
     /// What makes the status 1; refusals and bad tokens, if nothing is said of it.

@@ -129,11 +129,11 @@ pub holds_where : (so holds : Bool) → (not so || holds) ≡ true → so ≡ tr
 holds_where true holds fit is = fit
 holds_where false holds fit is = cc
 
--- what holds of an address holds of that of the device that has it
-pub of_address : {E : Type 0} (P : ℕ → Type 0) (address : ℕ) (r : Result DeviceParts E)
-    → IfOk r (λ d. d.address ≡ address) → P address → IfOk r (λ d. P d.address)
-of_address P address (Ok d) same holds = subst P (sym same) holds
-of_address P address (Err e) same holds = tt
+-- what holds of an address, or of another part, holds of that of the device that has it
+pub of_part : {E X : Type 0} (part : DeviceParts → X) (P : X → Type 0) (x : X) (r : Result DeviceParts E)
+    → IfOk r (λ d. part d ≡ x) → P x → IfOk r (λ d. P (part d))
+of_part part P x (Ok d) same holds = subst P (sym same) holds
+of_part part P x (Err e) same holds = tt
 
 -- What keys and commands that go together keep to: the modes, and what WRITE_PROTECT is and begins with.
 pub record GoTogether (keys : DeviceKeys) (commands : List CommandParts) : Type 0 where

@@ -23,19 +23,19 @@ use Rattle.pmb_table.specs.machine.Profile.{addresses_of}
 use Rattle.pmb_table.proofs.Places.{ArePlaces-push, new_to_earlier}
 
 -- after a device that was read, the values after it go on from there
-pub rest_of_device : (ignored : List ℕ) (before : List DeviceParts) (d : Data) (ds : Items) (device : DeviceParts)
-    → Ok device ≡ device_of ignored before d
-    → devices_after ignored (before ++ device ∷ []) ds ≡ devices_after ignored before (item d ds)
-rest_of_device ignored before d ds device read =
-    ap (λ r. bind r (λ x. devices_after ignored (before ++ x ∷ []) ds)) read
+pub rest_of_device : (ignored named : List ℕ) (before : List DeviceParts) (d : Data) (ds : Items)
+    (device : DeviceParts) → Ok device ≡ device_of ignored named before d
+    → devices_after ignored named (before ++ device ∷ []) ds ≡ devices_after ignored named before (item d ds)
+rest_of_device ignored named before d ds device read =
+    ap (λ r. bind r (λ x. devices_after ignored named (before ++ x ∷ []) ds)) read
 
 -- a device that was read took memory
-pub read_needs : {P : Type 0} (ignored : List ℕ) (before : List DeviceParts) (d : Data) (ds : Items)
-    (device : DeviceParts) → needs_memory ignored before (item d ds) ≡ false
-    → IfErr (keys_of ignored before d)
+pub read_needs : {P : Type 0} (ignored named : List ℕ) (before : List DeviceParts) (d : Data) (ds : Items)
+    (device : DeviceParts) → needs_memory ignored named before (item d ds) ≡ false
+    → IfErr (keys_of ignored named before d)
     (λ what. ◌≡◌ {A = Result DeviceParts ProfileFault} (Ok device) (Err (at_device (length before) what)))
     → P
-read_needs {P} ignored before d ds device none told = by (keys_of ignored before d) none told
+read_needs {P} ignored named before d ds device none told = by (keys_of ignored named before d) none told
   where
     by : (r : Result DeviceKeys FaultKind) → is_ok r ≡ false
         → IfErr r
@@ -44,13 +44,13 @@ read_needs {P} ignored before d ds device none told = by (keys_of ignored before
     by (Err what) none told = cc
 
 -- a fault that was told without memory is that of all that are left
-pub fault_without_memory : (ignored : List ℕ) (before : List DeviceParts) (d : Data) (ds : Items)
-    (fault : ProfileFault) → needs_memory ignored before (item d ds) ≡ false
-    → IfErr (keys_of ignored before d)
+pub fault_without_memory : (ignored named : List ℕ) (before : List DeviceParts) (d : Data) (ds : Items)
+    (fault : ProfileFault) → needs_memory ignored named before (item d ds) ≡ false
+    → IfErr (keys_of ignored named before d)
     (λ what. ◌≡◌ {A = Result DeviceParts ProfileFault} (Err fault) (Err (at_device (length before) what)))
-    → Err fault ≡ devices_after ignored before (item d ds)
-fault_without_memory ignored before d ds fault none told =
-    by (keys_of ignored before d) _ (λ device. devices_after ignored (before ++ device ∷ []) ds) none told
+    → Err fault ≡ devices_after ignored named before (item d ds)
+fault_without_memory ignored named before d ds fault none told =
+    by (keys_of ignored named before d) _ (λ device. devices_after ignored named (before ++ device ∷ []) ds) none told
   where
     by : (r : Result DeviceKeys FaultKind) (made : DeviceKeys → Result DeviceParts ProfileFault)
         (rest : DeviceParts → Result (List DeviceParts) ProfileFault) → is_ok r ≡ false

@@ -1,4 +1,5 @@
 pub mod Accepted
+pub mod Also
 pub mod StandardList
 pub mod CommandMaps
 pub mod CommandSteps

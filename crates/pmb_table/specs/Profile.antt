@@ -14,7 +14,7 @@ use Rattle.pmb_keys.specs.CommandRules.{command_of}
 use Rattle.pmb_command.specs.Parts.{CommandParts, DeviceParts, IsNew, all_same, command_with, has_one_mode}
 use Rattle.pmb_command.specs.Protection.{begins_protected, can_protect}
 use Rattle.pmb_keys.specs.DeviceKeys.{DeviceKeys, device_keys}
-use Rattle.pmb_keys.specs.IgnoreRule.{ignore_rule}
+use Rattle.pmb_keys.specs.Addresses.{ignore_rule, named_addresses}
 use Rattle.pmb_keys.specs.Rules.{bind, unless, only, typed, required, optional, item_count}
 
 -- What a profile says: its devices, and the addresses that it ignores, ascending, where it has a key
@@ -86,12 +86,14 @@ device_parts keys commands = record {
   vid = keys.vid;
   phases = keys.phases;
   protect = keys.protect;
+  also = keys.also;
   commands = commands;
 }
 
--- the keys of a device that comes after other devices, where these addresses are ignored
-abbrev pub keys_of : List ℕ → List DeviceParts → Data → Result DeviceKeys FaultKind
-keys_of ignored before d = bind (typed as_table d) (device_keys (map (λ x. x.address) before) ignored)
+-- the keys of a device that comes after other devices, where these addresses are ignored, and the tables of
+-- the profile's devices name those in `named`
+abbrev pub keys_of : List ℕ → List ℕ → List DeviceParts → Data → Result DeviceKeys FaultKind
+keys_of ignored named before d = bind (typed as_table d) (device_keys (map (λ x. x.address) before) ignored named)
 
 -- the commands of device n by its keys
 abbrev pub device_commands : ℕ → DeviceKeys → Result (List CommandParts) ProfileFault
@@ -99,25 +101,33 @@ device_commands n keys =
     commands_after n keys.pages [] (if keys.standard then standard_commands else []) keys.commands
 
 -- the device of a value
-abbrev pub device_of : List ℕ → List DeviceParts → Data → Result DeviceParts ProfileFault
-device_of ignored before d =
+abbrev pub device_of : List ℕ → List ℕ → List DeviceParts → Data → Result DeviceParts ProfileFault
+device_of ignored named before d =
     let n = length before in
-    bind (placed (at_device n) (keys_of ignored before d)) (λ keys.
+    bind (placed (at_device n) (keys_of ignored named before d)) (λ keys.
     bind (device_commands n keys) (λ commands.
     bind (placed (at_device n) (together keys commands)) (λ _.
     Ok (device_parts keys commands))))
 
 -- The devices after further values, where these came before.
-abbrev pub devices_after : List ℕ → List DeviceParts → Items → Result (List DeviceParts) ProfileFault
-devices_after ignored before no_items = Ok before
-devices_after ignored before (item d ds) =
-    bind (device_of ignored before d) (λ device. devices_after ignored (before ++ device ∷ []) ds)
+abbrev pub devices_after : List ℕ → List ℕ → List DeviceParts → Items → Result (List DeviceParts) ProfileFault
+devices_after ignored named before no_items = Ok before
+devices_after ignored named before (item d ds) =
+    bind (device_of ignored named before d) (λ device. devices_after ignored named (before ++ device ∷ []) ds)
+
+-- the devices of an array
+abbrev pub devices_of : List ℕ → Items → Result (List DeviceParts) ProfileFault
+devices_of ignored ds = devices_after ignored (named_addresses ds) [] ds
 
 -- Whether memory is taken for further values, where these came before: not where there are none, nor
 -- where the keys of the first one have a fault.
-abbrev pub needs_memory : List ℕ → List DeviceParts → Items → Bool
-needs_memory ignored before no_items = false
-needs_memory ignored before (item d ds) = is_ok (keys_of ignored before d)
+abbrev pub needs_memory : List ℕ → List ℕ → List DeviceParts → Items → Bool
+needs_memory ignored named before no_items = false
+needs_memory ignored named before (item d ds) = is_ok (keys_of ignored named before d)
+
+-- and whether it is for those of an array
+abbrev pub array_needs_memory : List ℕ → Items → Bool
+array_needs_memory ignored ds = needs_memory ignored (named_addresses ds) [] ds
 
 -- the array of the devices
 abbrev pub device_array_rule : Data → Result Items FaultKind
@@ -149,12 +159,12 @@ AreApart ignored devices = AllByRecursion (λ d. IsNew d.address ignored) device
 abbrev pub profile_of : Members → Result ProfileParts ProfileFault
 profile_of ms =
     bind (placed at_top (top_keys ms)) (λ top.
-    bind (devices_after (ignored_addresses top.ignored) [] top.devices) (λ devices.
+    bind (devices_of (ignored_addresses top.ignored) top.devices) (λ devices.
     Ok (record { devices = devices; ignored = top.ignored })))
 
 -- whether memory is taken for the devices of a table: not where its top has a fault
 abbrev pub top_needs_memory : Result TopKeys FaultKind → Bool
-top_needs_memory (Ok top) = needs_memory (ignored_addresses top.ignored) [] top.devices
+top_needs_memory (Ok top) = array_needs_memory (ignored_addresses top.ignored) top.devices
 top_needs_memory (Err what) = false
 
 -- its devices alone

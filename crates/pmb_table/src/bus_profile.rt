@@ -5,7 +5,7 @@
 ghost use Rattle.std.specs.Prelude.{◌≡◌, ◌⊎◌, ◌≤◌, [], false, length, option_map, Ok, Err, IfOk, IfErr, IsUtf8};
 ghost use Rattle.toml.specs.View.{view, items_view, table_view};
 ghost use Rattle.pmb_keys.specs.Rules.{bind};
-ghost use Rattle.pmb_table.specs.Profile.{AreApart, SaysBus, at_top, device_array_rule, devices_after, ignored_addresses, needs_memory, profile_of, top_keys, top_needs_memory};
+ghost use Rattle.pmb_table.specs.Profile.{AreApart, SaysBus, at_top, device_array_rule, devices_of, ignored_addresses, array_needs_memory, profile_of, top_keys, top_needs_memory};
 ghost use Rattle.pmb_table.specs.machine.Top.{top_parts};
 
 use crate::device_reader::read_devices;
@@ -13,7 +13,7 @@ use crate::document::read_table;
 use crate::fault::ProfileFault;
 use crate::place;
 use crate::profile::Profile;
-use pmb_keys::{FaultKind, Ignored, array_of, only, present, read_ignored};
+use pmb_keys::{Addresses, FaultKind, array_of, only, present, read_ignored};
 use std::alloc::Global;
 use std::marker::Model;
 use toml::{Table, Value};
@@ -27,7 +27,7 @@ const MAX_DEVICES: usize = 64;
 pub struct BusProfile {
     profile: Profile,
     /// The addresses, where the profile has a key for them.
-    ignored: Option<Ignored>,
+    ignored: Option<Addresses>,
 }
 
 impl Model for BusProfile {
@@ -45,7 +45,7 @@ impl Model for BusProfile {
 struct Top<'a> {
     /// The values of the devices.
     devices: &'a [Value],
-    ignored: Option<Ignored>,
+    ignored: Option<Addresses>,
 }
 
 /// The values of an array of devices.
@@ -73,10 +73,10 @@ fn read_top(table: &Table) -> Result<Top<'_>, FaultKind>
 }
 
 /// Reads the devices of their values, where these addresses are ignored.
-fn read_apart(alloc: Global, ignored: &Ignored, values: &[Value]) -> Result<Profile, ProfileFault>
+fn read_apart(alloc: Global, ignored: &Addresses, values: &[Value]) -> Result<Profile, ProfileFault>
     requires { length values.now ≤ 64 }
-    ensures read { (result ≡ Err (at_top FaultKind.OutOfMemory)) ⊎ (result ≡ devices_after ignored.now [] (items_view values.now)) }
-    ensures no_memory { needs_memory ignored.now [] (items_view values.now) ≡ false → result ≡ devices_after ignored.now [] (items_view values.now) }
+    ensures read { (result ≡ Err (at_top FaultKind.OutOfMemory)) ⊎ (result ≡ devices_of ignored.now (items_view values.now)) }
+    ensures no_memory { array_needs_memory ignored.now (items_view values.now) ≡ false → result ≡ devices_of ignored.now (items_view values.now) }
     ensures apart { IfOk result (λ profile. AreApart ignored.now profile) }
 {
     match read_devices(alloc, ignored, values) {
@@ -88,8 +88,8 @@ fn read_apart(alloc: Global, ignored: &Ignored, values: &[Value]) -> Result<Prof
 /// Reads the profile of what its top says.
 fn read_profile(alloc: Global, top: Top) -> Result<BusProfile, ProfileFault>
     requires { length top.devices.now ≤ 64 }
-    ensures read { (result ≡ Err (at_top FaultKind.OutOfMemory)) ⊎ (result ≡ bind (devices_after (ignored_addresses top.entry.ignored) [] (items_view top.entry.devices.now)) (λ devices. Ok (record { devices = devices; ignored = top.entry.ignored }))) }
-    ensures no_memory { needs_memory (ignored_addresses top.entry.ignored) [] (items_view top.entry.devices.now) ≡ false → result ≡ bind (devices_after (ignored_addresses top.entry.ignored) [] (items_view top.entry.devices.now)) (λ devices. Ok (record { devices = devices; ignored = top.entry.ignored })) }
+    ensures read { (result ≡ Err (at_top FaultKind.OutOfMemory)) ⊎ (result ≡ bind (devices_of (ignored_addresses top.entry.ignored) (items_view top.entry.devices.now)) (λ devices. Ok (record { devices = devices; ignored = top.entry.ignored }))) }
+    ensures no_memory { array_needs_memory (ignored_addresses top.entry.ignored) (items_view top.entry.devices.now) ≡ false → result ≡ bind (devices_of (ignored_addresses top.entry.ignored) (items_view top.entry.devices.now)) (λ devices. Ok (record { devices = devices; ignored = top.entry.ignored })) }
 {
     let Top { devices, ignored } = top;
     match ignored {
@@ -100,7 +100,7 @@ fn read_profile(alloc: Global, top: Top) -> Result<BusProfile, ProfileFault>
             }),
             Err(fault) => Err(fault),
         },
-        None => match read_apart(alloc, &Ignored::none(), devices) {
+        None => match read_apart(alloc, &Addresses::none(), devices) {
             Ok(profile) => Ok(BusProfile {
                 profile,
                 ignored: None,
@@ -154,7 +154,7 @@ impl BusProfile {
     }
 
     /// The addresses that are ignored; `None` where the profile has no key for them.
-    pub fn ignored(&self) -> Option<&Ignored>
+    pub fn ignored(&self) -> Option<&Addresses>
         ensures { option_map (λ i. i.now) result ≡ self.now.ignored }
     {
         match &self.ignored {

@@ -3,11 +3,12 @@
 //! Its rows: `tests_commands`, `src/parts.rt`, `src/sample.rt`; `tests/rows/profiles.txt`.
 
 ghost use Rattle.std.specs.Prelude.{◌≡◌, ◌<◌, ◌≤◌, find, length, map, nat_eq, option_map, slice_get, true, IfSome, Some};
-ghost use Rattle.std.specs.List.{AllByRecursion};
+ghost use Rattle.std.specs.List.{AllByRecursion, list_any};
 ghost use Rattle.pmb_command.specs.Bus.{HasTableForEach, IsDevice, IsEntry, IsInitial};
 ghost use Rattle.pmb_command.specs.Names.{IsUnit, is_name};
 ghost use Rattle.std.specs.Option.{option_and_then};
 ghost use Rattle.pmb_command.specs.Entry.{entry_parts};
+ghost use Rattle.pmb_command.specs.Forms.{has_write, is_own_page, takes_data};
 ghost use Rattle.pmb_command.specs.Parts.{HaveOwnCodes, command_with, initial_on, is_phased, name_of_bit, named_bits};
 ghost use Rattle.pmb_keys.specs.CommandView.{bit_parts, command_parts};
 ghost use Rattle.pmb_table.specs.Profile.{device_parts};
@@ -16,9 +17,15 @@ ghost use Rattle.pmb_keys.specs.VidView.{vid_parts};
 
 use crate::command_map::CommandMap;
 use pmb_coefficients::Direct;
-use pmb_command::{Entry, Name, PecMode};
-use pmb_keys::{Command, DeviceKeys, Modes, NamedBit, VidTables};
+use pmb_command::{Entry, Form, Name, PecMode};
+use pmb_keys::{Addresses, Command, DeviceKeys, Modes, NamedBit, VidTables};
 use std::marker::Model;
+
+/// The code of PAGE (PMBus Part II 1.3 section 11.10).
+const PAGE: u8 = 0x00;
+
+/// The value of PAGE that selects all pages.
+const ALL_PAGES: u8 = 0xff;
 
 /// A device of a bus: its address, how it speaks, and its commands, no two of which have one code.
 #[derive(Debug, Drop)]
@@ -35,6 +42,8 @@ pub struct DeviceProfile {
     phases: Option<u8>,
     /// Whether it keeps to WRITE_PROTECT.
     protect: bool,
+    /// The other addresses at which its part takes what is written.
+    also: Addresses,
     commands: CommandMap,
 }
 
@@ -56,6 +65,7 @@ impl Model for DeviceProfile {
       vid = option_map vid_parts d.vid;
       phases = d.phases;
       protect = d.protect;
+      also = d.also;
       commands = d.commands;
     } };
 
@@ -69,6 +79,7 @@ impl Model for DeviceProfile {
       vid = option_map vid_parts d.vid;
       phases = d.phases;
       protect = d.protect;
+      also = d.also;
       commands = d.commands;
     }) };
 }
@@ -99,6 +110,16 @@ fn find_bit(bits: &[NamedBit], bit: u8) -> Option<&NamedBit>
     None
 }
 
+/// Whether a command that is written in a form takes so many bytes of data.
+fn takes_data(form: Option<Form>, length: usize) -> bool
+    ensures { result ≡ takes_data form length }
+{
+    match form {
+        Some(form) => form.takes(length),
+        None => false,
+    }
+}
+
 impl DeviceProfile {
     /// The device of these keys and commands.
     pub(crate) fn new(keys: DeviceKeys, commands: CommandMap) -> Self
@@ -115,6 +136,7 @@ impl DeviceProfile {
             vid: keys.vid,
             phases: keys.phases,
             protect: keys.protect,
+            also: keys.also,
             commands,
         }
     }
@@ -197,6 +219,21 @@ impl DeviceProfile {
         self.protect
     }
 
+    /// The other addresses at which its part takes what is written, as a part that has a global address
+    /// beside its own does. Each is that of a device of the profile.
+    pub fn also(&self) -> &Addresses
+        ensures { result.now ≡ self.now.also }
+    {
+        &self.also
+    }
+
+    /// Whether its part takes what is written at this other address, too.
+    pub fn listens(&self, address: u8) -> bool
+        ensures { result ≡ list_any (nat_eq address) self.now.also }
+    {
+        self.also.contains(address)
+    }
+
     /// How many commands there are.
     pub fn len(&self) -> usize
         ensures len { result ≡ length self.now.commands }
@@ -214,6 +251,30 @@ impl DeviceProfile {
         match self.commands.get(code) {
             Some(command) => Some(&command.entry),
             None => None,
+        }
+    }
+
+    /// Whether the device has such a write: the command, in a form that takes these data, and of PAGE a
+    /// value that is one of its own pages or ffh.
+    pub fn has_write(&self, code: u8, bytes: &[u8]) -> bool
+        ensures { result ≡ has_write self.now code bytes.now }
+    {
+        match self.entry(code) {
+            Some(entry) => {
+                takes_data(entry.shape.write, bytes.len())
+                    && (code != PAGE || self.is_own_page(bytes))
+            }
+            None => false,
+        }
+    }
+
+    // Whether the value of PAGE is a page of the device, or ffh for all of them.
+    fn is_own_page(&self, bytes: &[u8]) -> bool
+        ensures { result ≡ is_own_page self.now bytes.now }
+    {
+        match bytes.first() {
+            Some(page) => *page < self.pages || *page == ALL_PAGES,
+            None => false,
         }
     }
 

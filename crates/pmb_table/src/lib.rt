@@ -34,6 +34,6 @@ pub use bus_profile::BusProfile;
 pub use device_profile::DeviceProfile;
 pub use fault::ProfileFault;
 pub use pmb_command::{Entry, Form, Kind, PecMode, Shape, bit_name, by_name, standard};
-pub use pmb_keys::{Command, FaultKind, Ignored, NamedBit};
+pub use pmb_keys::{Addresses, Command, FaultKind, NamedBit};
 pub use profile::Profile;
 pub use sample::SAMPLE;

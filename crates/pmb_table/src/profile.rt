@@ -9,7 +9,7 @@
 ghost use Rattle.std.specs.Prelude.{◌≡◌, ◌⊎◌, ◌≤◌, length, option_map, slice_get, Err, Some, IfNone, IfSome, IsUtf8};
 ghost use Rattle.std.specs.List.{AllByRecursion};
 ghost use Rattle.pmb_table.specs.Profile.{Says, at_top};
-ghost use Rattle.pmb_command.specs.Bus.{IsBus, IsDevice};
+ghost use Rattle.pmb_command.specs.Bus.{AreOfDevices, IsBus, IsDevice};
 ghost use Rattle.pmb_command.specs.Parts.{HaveOwnAddresses, IsNew, device_with};
 ghost use Rattle.pmb_table.specs.machine.Places.{ArePlaces};
 ghost use Rattle.pmb_table.specs.machine.Profile.{addresses_of};
@@ -64,6 +64,7 @@ impl Profile {
         requires few { length devices.items ≤ 64 }
         requires own_addresses { HaveOwnAddresses devices.items }
         requires devices { AllByRecursion IsDevice devices.items }
+        requires also { AllByRecursion (λ d. AreOfDevices devices.items d.also) devices.items }
         ensures { result ≡ devices.items }
     {
         let places = places_of(devices.as_slice());

@@ -136,7 +136,12 @@ is_59h = record {
 
 pub accepted : IsBus worked_bus
 unfolding IsDistinct
-accepted = record { few = omega arith; own_addresses = ((refl, tt), (tt, tt)); devices = (is_58h, (is_59h, tt)) }
+accepted = record {
+  few = omega arith;
+  own_addresses = ((refl, tt), (tt, tt));
+  devices = (is_58h, (is_59h, tt));
+  also = (tt, (tt, tt));
+}
 
 -- ---- the bodies that the device at 58h takes
 

@@ -3,20 +3,11 @@ use Rattle.std.specs.Prelude.{◌≡◌, ℕ, ◌⊎◌, Bool, true, false, Opti
 use Rattle.pmb_bus.specs.Pec.{pec}
 use Rattle.pmb_bus.specs.Address.{write_address}
 use Rattle.pmb_command.specs.declared.form.Form.{Form}
-use Rattle.pmb_command.specs.declared.form.Shape.{Shape}
-use Rattle.pmb_command.specs.Parts.{CommandParts, DeviceParts, command_with}
+use Rattle.pmb_command.specs.Parts.{DeviceParts}
+pub use Rattle.pmb_command.specs.Forms.{forms, shape_of}
 use Rattle.pmb_command.specs.PecMode.{AllowsPec}
 use Rattle.pmb_command.specs.Wire.{Fits, wire}
 use Rattle.pmb_transaction.specs.Transaction.{PartData}
-
--- the forms of a command; none where there is no command
-abbrev pub shape_of : Option CommandParts → Shape
-shape_of None = record { write = None; read = None; call = None }
-shape_of (Some command) = command.entry.shape
-
--- the forms in which a device takes a command code
-abbrev pub forms : DeviceParts → ℕ → Shape
-forms device code = shape_of (command_with code device.commands)
 
 -- Bytes, and after them, where one is asked for, the packet error code (SMBus 3.0 section 6.4) over
 -- all bytes so far: those `before` and these.

@@ -1,5 +1,5 @@
 -- Rows of reasons, worked by hand on a bus of two devices.
-use Rattle.std.specs.Prelude.{ℕ, false, Some, None, List, [], ◌∷◌, codes}
+use Rattle.std.specs.Prelude.{ℕ, false, None, List, [], ◌∷◌, codes}
 use Rattle.pmb_bus.specs.declared.event.Event.{Event}
 use Rattle.pmb_bus.specs.declared.event.Event.TheVariants.{Byte, Ack, Nack}
 use Rattle.pmb_command.specs.declared.entry.Kind.TheVariants.{Raw}
@@ -49,6 +49,7 @@ device_58h = record {
   vid = None;
   phases = None;
   protect = false;
+  also = [];
   commands =
       clear_faults ∷ read_vin ∷ [];
 }
@@ -65,6 +66,7 @@ device_59h = record {
   vid = None;
   phases = None;
   protect = false;
+  also = [];
   commands = capability
       ∷ [];
 }

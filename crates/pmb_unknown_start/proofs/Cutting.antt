@@ -7,7 +7,7 @@ use Rattle.std.proofs.Common.{◌≡◌, ◌≢◌, ℕ, cond, Bool, true, false
 use Rattle.std.proofs.Common.{length, map, nat_eq, inl, inr, refl, sym, ap, ◌∙◌, subst, arith}
 use Rattle.std.specs.List.{AllByRecursion, flat_map}
 use Rattle.std.proofs.lemmas.Bool.{eqb-true}
-use Rattle.std.proofs.lemmas.List.{length-map}
+use Rattle.std.proofs.lemmas.List.{length-map, map-append}
 use Rattle.std.proofs.lemmas.List.Sums.{fold-append}
 use Rattle.std.proofs.lemmas.Option.{none-some}
 use Rattle.pmb_command.specs.Bus.{IsDevice}
@@ -18,9 +18,10 @@ use Rattle.pmb_note.specs.Paging.{first_paging, page_code, paging, told, vout_mo
 use Rattle.pmb_unknown_start.specs.declared.start.Start.{Start}
 use Rattle.pmb_unknown_start.specs.declared.start.Start.TheVariants.{AllKnown, Late, LateFixedMode}
 use Rattle.pmb_unknown_start.specs.Past.{PastData, Said, Dropped, transactions_of}
-use Rattle.pmb_unknown_start.specs.Known.{KnownPaging, first_known, known, known_mode, learn_past, mode, mode_of, page}
-use Rattle.pmb_unknown_start.specs.Known.{page_of}
-use Rattle.pmb_unknown_start.specs.Certain.{CanBeCutAfter, DropsOnOwnPage, HasOwnPage, IsOwnPage, IsOwnPageTold}
+use Rattle.pmb_unknown_start.specs.Known.{KnownPaging, first_known, known_by, known_mode, learn_past, mode, mode_of, page}
+use Rattle.pmb_unknown_start.specs.Known.{known, page_of}
+use Rattle.pmb_unknown_start.specs.Taken.{as_taken, one_taken}
+use Rattle.pmb_unknown_start.specs.Certain.{CanBeCutAfter, CanBeCutBehind, DropsOnOwnPage, HasOwnPage, IsOwnPage, IsOwnPageTold}
 use Rattle.pmb_unknown_start.specs.Certain.{StaysKnown}
 use Rattle.pmb_unknown_start.proofs.Full.{all_is_known, full}
 use Rattle.pmb_unknown_start.proofs.Telling.{mode_set, paging_from, same_count, set_where, sets_all, with_modes}
@@ -132,10 +133,10 @@ module _ (device : DeviceParts) (is : IsDevice device) (before : List PastData)
       (own_count device (flat_map told (transactions_of before)) (first_paging device) so is.mode_of_each)
 
   -- all is known before the cut
-  all_here : known AllKnown device before ≡ full here
+  all_here : known_by AllKnown device before ≡ full here
   all_here = all_is_known device before (drops_own device before (first_paging device) so first_page_is is.mode_of_each)
 
-  is_full : (k : KnownPaging) → Under k (full here) → Under k (known AllKnown device before)
+  is_full : (k : KnownPaging) → Under k (full here) → Under k (known_by AllKnown device before)
   is_full k under = subst (Under k) (sym all_here) under
 
   own_by_count : IsOwnPage device here.page → IsOwn (Some here.page) (length (map Some here.modes))
@@ -145,13 +146,13 @@ module _ (device : DeviceParts) (is : IsDevice device) (before : List PastData)
   own_here : IsOwn (Some here.page) (length (map Some here.modes))
   own_here = own_by_count page_here
 
-  begins_late : Under (first_known Late device) (known AllKnown device before)
+  begins_late : Under (first_known Late device) (known_by AllKnown device before)
   begins_late = is_full (first_known Late device) (record {
     page = own_here;
     modes = within_none device.pages (map Some here.modes) (length-map here.modes Some ∙ count_here);
   })
 
-  begins_fixed : here.modes ≡ device.modes → Under (first_known LateFixedMode device) (known AllKnown device before)
+  begins_fixed : here.modes ≡ device.modes → Under (first_known LateFixedMode device) (known_by AllKnown device before)
   begins_fixed same = is_full (first_known LateFixedMode device) (record {
     page = own_here;
     modes = subst (λ (modes : List ℕ). Within (map Some device.modes) (map Some modes)) (sym same)
@@ -160,40 +161,40 @@ module _ (device : DeviceParts) (is : IsDevice device) (before : List PastData)
 
 -- what is known in the whole is known in what comes after the cut
 after_cut : (device : DeviceParts) (before piece : List PastData)
-    → known AllKnown device (before ++ piece) ≡ fold (learn_past AllKnown device) (known AllKnown device before) piece
+    → known_by AllKnown device (before ++ piece) ≡ fold (learn_past AllKnown device) (known_by AllKnown device before) piece
 after_cut device before piece = fold-append (learn_past AllKnown device) (first_known AllKnown device) before piece
 
 from_all : (device : DeviceParts) (before piece : List PastData) (k : KnownPaging)
-    → Under k (fold (learn_past AllKnown device) (known AllKnown device before) piece)
-    → StaysKnown (known_mode k) (known_mode (known AllKnown device (before ++ piece)))
-from_all device before piece k is = read_of k (known AllKnown device (before ++ piece))
+    → Under k (fold (learn_past AllKnown device) (known_by AllKnown device before) piece)
+    → StaysKnown (known_mode k) (known_mode (known_by AllKnown device (before ++ piece)))
+from_all device before piece k is = read_of k (known_by AllKnown device (before ++ piece))
     (subst (Under k) (sym (after_cut device before piece)) is)
 
 mode_of_piece : (device : DeviceParts) → IsDevice device → (before piece : List PastData) (start : Start)
-    → CanBeCutAfter start device before
-    → StaysKnown (known_mode (known start device piece)) (known_mode (known AllKnown device (before ++ piece)))
+    → CanBeCutBehind start device before
+    → StaysKnown (known_mode (known_by start device piece)) (known_mode (known_by AllKnown device (before ++ piece)))
 mode_of_piece device is before piece AllKnown so =
-    same_stays (known_mode (known AllKnown device piece)) (known_mode (known AllKnown device (before ++ piece)))
-    (ap (λ (front : List PastData). known_mode (known AllKnown device (front ++ piece))) so)
-mode_of_piece device is before piece Late so = from_all device before piece (known Late device piece)
-    (after device Late AllKnown late_all piece (first_known Late device) (known AllKnown device before)
+    same_stays (known_mode (known_by AllKnown device piece)) (known_mode (known_by AllKnown device (before ++ piece)))
+    (ap (λ (front : List PastData). known_mode (known_by AllKnown device (front ++ piece))) so)
+mode_of_piece device is before piece Late so = from_all device before piece (known_by Late device piece)
+    (after device Late AllKnown late_all piece (first_known Late device) (known_by AllKnown device before)
     (begins_late device is before so))
-mode_of_piece device is before piece LateFixedMode so = from_all device before piece (known LateFixedMode device piece)
+mode_of_piece device is before piece LateFixedMode so = from_all device before piece (known_by LateFixedMode device piece)
     (after device LateFixedMode AllKnown fixed_all piece (first_known LateFixedMode device)
-    (known AllKnown device before) (begins_fixed device is before so.0 so.1))
+    (known_by AllKnown device before) (begins_fixed device is before so.0 so.1))
 
 -- late, PAGE is known only where the piece tells it
 page_of_piece : (device : DeviceParts) (before piece : List PastData) (start : Start) (n : ℕ)
-    → start ≢ AllKnown → (known start device piece).page ≡ Some n
-    → (known AllKnown device (before ++ piece)).page ≡ Some n
+    → start ≢ AllKnown → (known_by start device piece).page ≡ Some n
+    → (known_by AllKnown device (before ++ piece)).page ≡ Some n
 page_of_piece device before piece AllKnown n late is = absurd (late refl)
 page_of_piece device before piece Late n late is = ap (λ (k : KnownPaging). k.page) (after_cut device before piece)
-    ∙ page_after device Late AllKnown late_all late piece (first_known Late device) (known AllKnown device before)
+    ∙ page_after device Late AllKnown late_all late piece (first_known Late device) (known_by AllKnown device before)
     (λ page told. absurd (none-some page told)) n is
 page_of_piece device before piece LateFixedMode n late is =
     ap (λ (k : KnownPaging). k.page) (after_cut device before piece)
     ∙ page_after device LateFixedMode AllKnown fixed_all late piece (first_known LateFixedMode device)
-    (known AllKnown device before)
+    (known_by AllKnown device before)
     (λ page told. absurd (none-some page told)) n is
 
 -- ---- .. of the device with an address
@@ -205,7 +206,9 @@ mode_found : (start : Start) (before piece : List PastData) (found : Option Devi
     (mode_of (λ device. known AllKnown device (before ++ piece)) found)
 mode_found start before piece None accepted so = refl
 mode_found start before piece (Some device) accepted so =
-    mode_of_piece device (accepted device refl) before piece start (so device refl)
+    subst (λ (all : List PastData). StaysKnown (known_mode (known start device piece)) (known_mode (known_by AllKnown device all)))
+    (sym (map-append (one_taken device) before piece))
+    (mode_of_piece device (accepted device refl) (as_taken device before) (as_taken device piece) start (so device refl))
 
 pub mode_at : (profile : List DeviceParts) (start : Start) (before piece : List PastData) (addr : ℕ)
     → ((device : DeviceParts) → device_with addr profile ≡ Some device → IsDevice device)
@@ -218,7 +221,9 @@ page_found : (start : Start) (before piece : List PastData) (n : ℕ) (found : O
     → page_of (λ device. known start device piece) found ≡ Some n
     → page_of (λ device. known AllKnown device (before ++ piece)) found ≡ Some n
 page_found start before piece n None late is = absurd (none-some n is)
-page_found start before piece n (Some device) late is = page_of_piece device before piece start n late is
+page_found start before piece n (Some device) late is =
+    ap (λ (all : List PastData). (known_by AllKnown device all).page) (map-append (one_taken device) before piece)
+    ∙ page_of_piece device (as_taken device before) (as_taken device piece) start n late is
 
 pub page_at : (profile : List DeviceParts) (start : Start) (before piece : List PastData) (addr n : ℕ)
     → start ≢ AllKnown

@@ -15,9 +15,10 @@ use Rattle.pmb_note.specs.Paging.{mode as mode_of_whole, page as page_of_whole}
 use Rattle.pmb_unknown_start.specs.declared.mode.KnownMode.TheVariants.{Known, Unknown, NoPage}
 use Rattle.pmb_unknown_start.specs.declared.start.Start.TheVariants.{AllKnown}
 use Rattle.pmb_unknown_start.specs.Past.{PastData, transactions_of}
-use Rattle.pmb_unknown_start.specs.Known.{KnownPaging, first_known, forget_paging, known, known_mode, learn_mode, may_be, mode}
+use Rattle.pmb_unknown_start.specs.Known.{KnownPaging, first_known, forget_paging, known, known_by, known_mode, learn_mode, may_be, mode}
 use Rattle.pmb_unknown_start.specs.Known.{mode_of, mode_on_page, modes_after, page, page_of, shared_by, shared_mode}
 use Rattle.pmb_unknown_start.specs.Certain.{DropsOnOwnPage, known_as}
+use Rattle.pmb_unknown_start.proofs.NoOthers.{none_other}
 use Rattle.pmb_unknown_start.proofs.Telling.{along, set_where}
 
 -- all is known
@@ -57,7 +58,7 @@ own_stays ns page (inr all) = or_right (nat_lt page (length (map Some ns)))
 
 -- what is known of PAGE and VOUT_MODE after what went before, from all that they are
 pub all_is_known : (device : DeviceParts) (past : List PastData) → DropsOnOwnPage device (first_paging device) past
-    → known AllKnown device past ≡ full (paging device (transactions_of past))
+    → known_by AllKnown device past ≡ full (paging device (transactions_of past))
 all_is_known device past drops = along device IsFull
     (λ k p value is. ap (λ (l : KnownPaging). record { page = Some value; modes = l.modes }) is)
     (λ k p value is. ap (learn_mode device value) is
@@ -68,6 +69,14 @@ all_is_known device past drops = along device IsFull
     ∙ ap (λ (b : Bool). record { page = cond b (Some p.page) None; modes = map Some p.modes })
     (own_stays p.modes p.page own))
     past (first_known AllKnown device) (first_paging device) drops refl
+
+-- .. of a device that has no other addresses
+own_is_known : (device : DeviceParts) (past : List PastData) → device.also ≡ []
+    → DropsOnOwnPage device (first_paging device) past
+    → known AllKnown device past ≡ full (paging device (transactions_of past))
+own_is_known device past none drops =
+    ap (λ (all : List PastData). known_by AllKnown device all) (none_other device none past)
+    ∙ all_is_known device past drops
 
 -- ---- what is read of it
 
@@ -103,29 +112,32 @@ selected true ns i = shared_is ns
 selected false ns i = on_page_is ns i
 
 mode_found : (past : List PastData) (found : Option DeviceParts)
-    → ((device : DeviceParts) → found ≡ Some device → DropsOnOwnPage device (first_paging device) past)
+    → ((device : DeviceParts) → found ≡ Some device
+    → (device.also ≡ []) × DropsOnOwnPage device (first_paging device) past)
     → mode_of (λ device. known AllKnown device past) found
     ≡ known_as (option_and_then (λ device. selected_mode (paging device (transactions_of past))) found)
 mode_found past None drops = refl
 mode_found past (Some device) drops =
     let p : PagingData = paging device (transactions_of past) in
-    ap known_mode (all_is_known device past (drops device refl)) ∙ selected (nat_eq p.page all_pages) p.modes p.page
+    ap known_mode (own_is_known device past (drops device refl).0 (drops device refl).1) ∙ selected (nat_eq p.page all_pages) p.modes p.page
 
 pub mode_is_known : (profile : List DeviceParts) (past : List PastData) (addr : ℕ)
     → ((device : DeviceParts) → device_with addr profile ≡ Some device
-    → DropsOnOwnPage device (first_paging device) past)
+    → (device.also ≡ []) × DropsOnOwnPage device (first_paging device) past)
     → mode AllKnown profile past addr ≡ known_as (mode_of_whole profile (transactions_of past) addr)
 mode_is_known profile past addr drops = mode_found past (device_with addr profile) drops
 
 page_found : (past : List PastData) (found : Option DeviceParts)
-    → ((device : DeviceParts) → found ≡ Some device → DropsOnOwnPage device (first_paging device) past)
+    → ((device : DeviceParts) → found ≡ Some device
+    → (device.also ≡ []) × DropsOnOwnPage device (first_paging device) past)
     → page_of (λ device. known AllKnown device past) found
     ≡ option_map (λ device. (paging device (transactions_of past)).page) found
 page_found past None drops = refl
-page_found past (Some device) drops = ap (λ (k : KnownPaging). k.page) (all_is_known device past (drops device refl))
+page_found past (Some device) drops =
+    ap (λ (k : KnownPaging). k.page) (own_is_known device past (drops device refl).0 (drops device refl).1)
 
 pub page_is_known : (profile : List DeviceParts) (past : List PastData) (addr : ℕ)
     → ((device : DeviceParts) → device_with addr profile ≡ Some device
-    → DropsOnOwnPage device (first_paging device) past)
+    → (device.also ≡ []) × DropsOnOwnPage device (first_paging device) past)
     → page AllKnown profile past addr ≡ page_of_whole profile (transactions_of past) addr
 page_is_known profile past addr drops = page_found past (device_with addr profile) drops

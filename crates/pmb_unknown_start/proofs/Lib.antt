@@ -1,9 +1,12 @@
 pub mod Agreeing
 pub mod Telling
 pub mod Drops
+pub mod NoOthers
 pub mod Full
 pub mod Under
 pub mod Cutting
 pub mod Assumed
 pub mod Reached
 pub mod LastPhase
+pub mod Keeping
+pub mod OfEach

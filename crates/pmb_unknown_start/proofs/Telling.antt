@@ -20,7 +20,7 @@ use Rattle.pmb_unknown_start.specs.declared.start.Start.{Start}
 use Rattle.pmb_unknown_start.specs.declared.start.Start.TheVariants.{AllKnown, Late, LateFixedMode}
 use Rattle.pmb_unknown_start.specs.Past.{PastData, Said, Dropped, transactions_of}
 use Rattle.pmb_unknown_start.specs.Restores.{untells}
-use Rattle.pmb_unknown_start.specs.Known.{KnownPaging, any_page, first_known, forget_modes, forget_paging, known}
+use Rattle.pmb_unknown_start.specs.Known.{KnownPaging, any_page, first_known, forget_modes, forget_paging, known_by}
 use Rattle.pmb_unknown_start.specs.Known.{known_mode, learn_bytes, learn_mode, learn_past, learn_told}
 use Rattle.pmb_unknown_start.specs.Known.{learn_transaction, learn_value, learn_written, mode_on_page, mode_under}
 use Rattle.pmb_unknown_start.specs.Known.{modes_after, own_page, shared_mode, told_by_read}
@@ -397,14 +397,14 @@ page_that (Some page) p is = is
 
 module _ (start : Start) (device : DeviceParts) (past : List PastData) (p q : PagingData)
     (begin : CanBegin start device p) (reach : CanReach start device p past q) where
-  pub reached : Agrees start device (known start device past) q
+  pub reached : Agrees start device (known_by start device past) q
   reached = reaches device start past (first_known start device) p q reach (begins device start p begin)
 
-  pub certain_mode : (o : Option ℕ) (k : KnownMode) → known_mode (known start device past) ≡ k
+  pub certain_mode : (o : Option ℕ) (k : KnownMode) → known_mode (known_by start device past) ≡ k
       → (AgreesWith k (selected_mode q) → selected_mode q ≡ o) → selected_mode q ≡ o
   certain_mode o k is says = says (subst (λ (l : KnownMode). AgreesWith l (selected_mode q)) is
-      (mode_is start device (known start device past) q reached))
+      (mode_is start device (known_by start device past) q reached))
 
-  pub certain_page : (page : ℕ) → (known start device past).page ≡ Some page → q.page ≡ page
-  certain_page page is = page_is (known start device past).page q.page page is
-      (page_that (known start device past).page q reached.page)
+  pub certain_page : (page : ℕ) → (known_by start device past).page ≡ Some page → q.page ≡ page
+  certain_page page is = page_is (known_by start device past).page q.page page is
+      (page_that (known_by start device past).page q reached.page)

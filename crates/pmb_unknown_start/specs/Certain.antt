@@ -13,6 +13,7 @@ use Rattle.pmb_unknown_start.specs.declared.start.Start.{Start}
 use Rattle.pmb_unknown_start.specs.declared.start.Start.TheVariants.{AllKnown, Late, LateFixedMode}
 use Rattle.pmb_unknown_start.specs.Past.{PastData, Said, Dropped, transactions_of}
 use Rattle.pmb_unknown_start.specs.Restores.{untells}
+use Rattle.pmb_unknown_start.specs.Taken.{as_taken}
 use Rattle.pmb_unknown_start.specs.Known.{told_by_read}
 
 -- a PAGE that selects a page of the device, or all
@@ -111,14 +112,18 @@ IsOwnPageTold device t = t.addr ≡ device.address → t.code ≡ page_code → 
 abbrev pub HasFirstModes : DeviceParts → List TransactionData → Type 0
 HasFirstModes device ts = (paging device ts).modes ≡ device.modes
 
--- What may stand before a cut, so that the rest is read as the start says: where all is known nothing,
--- and else PAGE was only ever written to, or read as, pages that the device has, or ffh, and each page
+-- What a device may have taken before a cut, so that the rest is read as the start says: where all is known
+-- nothing, and else PAGE was only ever written to, or read as, pages that the device has, or ffh, and each page
 -- has the VOUT_MODE of the profile at the cut where that is fixed.
-abbrev pub CanBeCutAfter : Start → DeviceParts → List PastData → Type 0
-CanBeCutAfter AllKnown device before = before ≡ []
-CanBeCutAfter Late device before = AllByRecursion (IsOwnPageTold device) (flat_map told (transactions_of before))
-CanBeCutAfter LateFixedMode device before = AllByRecursion (IsOwnPageTold device) (flat_map told (transactions_of before))
+abbrev pub CanBeCutBehind : Start → DeviceParts → List PastData → Type 0
+CanBeCutBehind AllKnown device before = before ≡ []
+CanBeCutBehind Late device before = AllByRecursion (IsOwnPageTold device) (flat_map told (transactions_of before))
+CanBeCutBehind LateFixedMode device before = AllByRecursion (IsOwnPageTold device) (flat_map told (transactions_of before))
     × HasFirstModes device (transactions_of before)
+
+-- .. by what may stand there
+abbrev pub CanBeCutAfter : Start → DeviceParts → List PastData → Type 0
+CanBeCutAfter start device before = CanBeCutBehind start device (as_taken device before)
 
 -- At each line that was dropped PAGE is a page of the device, or all, from PAGE and VOUT_MODE before all that is
 -- said.

@@ -3,7 +3,8 @@
 --
 -- What is told, and what PAGE and VOUT_MODE are, is in `pmb_note`. A PAGE that is not known is one of
 -- the device's pages, or ffh for all. A write that sets VOUT_MODE unseen (`Restores`) leaves it
--- untold, and a line that was dropped (`Past`) both. That what is known is so is in `Certain`.
+-- untold, and a line that was dropped (`Past`) both. What is written at an address of a device's key `also` it
+-- takes as if it came to its own (`Taken`). That what is known is so is in `Certain`.
 use Rattle.std.specs.Prelude.{ℕ, Bool, true, false, not, ◌||◌, if◌then◌else◌, Option, Some, None, List, [], ◌∷◌, fold}
 use Rattle.std.specs.Prelude.{length, map, nat_eq, nat_lt, replicate, slice_get, slice_set}
 use Rattle.std.specs.List.{list_all}
@@ -17,6 +18,7 @@ use Rattle.pmb_unknown_start.specs.declared.start.Start.{Start}
 use Rattle.pmb_unknown_start.specs.declared.start.Start.TheVariants.{AllKnown, Late, LateFixedMode}
 use Rattle.pmb_unknown_start.specs.Past.{PastData, Said, Dropped}
 use Rattle.pmb_unknown_start.specs.Restores.{untells}
+use Rattle.pmb_unknown_start.specs.Taken.{as_taken}
 
 -- PAGE of a device, and the value of VOUT_MODE on each page, from page 0 on, where they are known.
 pub record KnownPaging : Type 0 where
@@ -136,9 +138,13 @@ abbrev pub learn_past : Start → DeviceParts → KnownPaging → PastData → K
 learn_past start device k (Said t) = learn_transaction start device k t
 learn_past start device k Dropped = forget_paging start k
 
--- what is known of a device after what went before
+-- what is known of a device after what it took
+abbrev pub known_by : Start → DeviceParts → List PastData → KnownPaging
+known_by start device past = fold (learn_past start device) (first_known start device) past
+
+-- .. after what went before
 abbrev pub known : Start → DeviceParts → List PastData → KnownPaging
-known start device past = fold (learn_past start device) (first_known start device) past
+known start device past = known_by start device (as_taken device past)
 
 -- the first mode that is known
 abbrev pub first_told : List (Option ℕ) → Option ℕ

@@ -7,6 +7,7 @@ use Rattle.std.specs.Option.{is_some, option_or}
 use Rattle.pmb_command.specs.Parts.{DeviceParts, device_with}
 use Rattle.pmb_note.specs.Paging.{RegisterTold, told}
 use Rattle.pmb_unknown_start.specs.Past.{PastData, Said, Dropped}
+use Rattle.pmb_unknown_start.specs.Taken.{as_taken}
 
 abbrev pub phase_code : ℕ
 phase_code = 0x04
@@ -35,9 +36,11 @@ told_then ts Dropped = []
 abbrev pub told_since : List PastData → List RegisterTold
 told_since past = fold told_then [] past
 
--- PHASE of a device at an address after what went before, where it is known: none where it has no phases
+-- PHASE of a device at an address after what it took of what went before, where it is known: none where it has
+-- no phases
 abbrev pub phase_of : ℕ → List PastData → DeviceParts → Option ℕ
-phase_of addr past device = if is_some device.phases then last_phase addr (told_since past) else None
+phase_of addr past device =
+    if is_some device.phases then last_phase addr (told_since (as_taken device past)) else None
 
 -- .. of the device with an address: none where the profile has no such device
 abbrev pub phase : List DeviceParts → List PastData → ℕ → Option ℕ

@@ -1,22 +1,20 @@
 //! What is known of PAGE, VOUT_MODE and PHASE of the devices of a bus.
 //!
-//! Its rows: `tests_lines`, `src/late/starts.rt` and `phases.rt`; `tests_json`,
+//! Its rows: `tests_lines`, `src/late/starts.rt`, `phases.rt` and `also.rt`; `tests_json`,
 //! `src/fields/contexts.rt`.
 
-ghost use Rattle.std.specs.Prelude.{◌≡◌, ◌++◌, ◌∷◌, [], if◌then◌else◌, List, fold, map, nat_eq, option_map, Some};
+ghost use Rattle.std.specs.Prelude.{◌≡◌, ◌++◌, ◌∷◌, ◌+◌, ◌<◌, [], List, false, length, map, option_map, Some, take};
 ghost use Rattle.pmb_command.specs.Parts.{DeviceParts, device_with};
 ghost use Rattle.pmb_transaction.specs.Transaction.{part_data, transaction_data};
-ghost use Rattle.pmb_note.specs.Paging.{told_by_part};
 ghost use Rattle.pmb_unknown_start.specs.declared.start.Start.{Start as StartData};
 ghost use Rattle.pmb_unknown_start.specs.declared.start.Start.TheVariants.{Late as LateStart};
-ghost use Rattle.pmb_unknown_start.specs.Known.{KnownPaging, first_known, forget_modes, forget_paging, learn_told, learn_transaction, learn_written, mode_of, page_of};
 ghost use Rattle.pmb_unknown_start.specs.Late.{HasSeen, is_assumed as is_assumed_after, mode as mode_after, page as page_after, phase as phase_after};
 ghost use Rattle.pmb_unknown_start.specs.Past.{PastData, Said, Dropped};
-ghost use Rattle.pmb_unknown_start.specs.machine.Standing.{Keeps, kept_at};
+ghost use Rattle.pmb_unknown_start.specs.machine.Keeping.{Keeps, KeptData, first_kept, kept, kept_after, kept_at, kept_dropped, kept_parts, kept_read, kept_write, written_to};
 
-use crate::known::{Known, is_paging};
+use crate::kept::{Kept, is_phase};
+use crate::known::is_paging;
 use crate::mode::{KnownMode, is_unknown};
-use crate::phases::Phases;
 use crate::restores::untells_mode;
 use crate::start::Start;
 use arrayvec::ArrayVec;
@@ -45,15 +43,19 @@ const ADDRESSES: u8 = 128;
 /// device lacks.
 ///
 /// PHASE is not known at first with any start, nor after a line that was dropped.
+///
+/// What is written at an address of its key `also` a device takes as if it came to its own, if it has such
+/// a write. What is read there tells nothing of it. A packet that reaches a device at two of its addresses,
+/// which PMBus forbids, counts for that device as a line that was dropped.
 #[derive(Drop)]
 pub struct Late<'p> {
     profile: &'p Profile,
     start: Start,
     /// Of the device at each address; nothing that means anything where there is none.
-    known: ArrayVec<Known, 128>,
-    /// The same, had the capture begun in the middle.
-    told: ArrayVec<Known, 128>,
-    phases: Phases,
+    known: ArrayVec<Kept, 128>,
+    /// The same, had the capture begun in the middle. They are two lists, since one of both would take twice the
+    /// stack where it is made.
+    told: ArrayVec<Kept, 128>,
 }
 
 impl<'p> Late<'p> {
@@ -64,9 +66,8 @@ impl<'p> Late<'p> {
         Late {
             profile,
             start,
-            known: all_first_known(profile, start),
-            told: all_first_known(profile, Start::Late),
-            phases: Phases::new(),
+            known: all_first(profile, start),
+            told: all_first(profile, Start::Late),
         }
     }
 
@@ -76,10 +77,9 @@ impl<'p> Late<'p> {
             → HasSeen self.new profile start (past ++ Said (transaction_data transaction.now) ∷ []) }
     {
         let known = self.known.as_mut_slice();
-        learn_transaction(self.profile, known, self.start, transaction);
+        take_transaction(self.profile, known, self.start, transaction);
         let told = self.told.as_mut_slice();
-        learn_transaction(self.profile, told, Start::Late, transaction);
-        self.phases.observe(transaction);
+        take_transaction(self.profile, told, Start::Late, transaction);
     }
 
     /// A line of the capture was dropped, or a packet refused, and what it did is not known.
@@ -87,11 +87,8 @@ impl<'p> Late<'p> {
         ensures { (profile : List DeviceParts) (start : StartData) (past : List PastData) → HasSeen self.old profile start past
             → HasSeen self.new profile start (past ++ Dropped ∷ []) }
     {
-        let known = self.known.as_mut_slice();
-        forget_each(known, self.start);
-        let told = self.told.as_mut_slice();
-        forget_each(told, Start::Late);
-        self.phases = Phases::new();
+        forget_each(self.known.as_mut_slice(), self.start);
+        forget_each(self.told.as_mut_slice(), Start::Late);
     }
 
     /// The value of PAGE of the device with an address, ffh for all pages, also where it has no page of
@@ -100,7 +97,10 @@ impl<'p> Late<'p> {
         ensures { (profile : List DeviceParts) (start : StartData) (past : List PastData) → HasSeen self.now profile start past
             → result ≡ page_after start profile past addr }
     {
-        page_in(self.profile, self.known.as_slice(), addr)
+        match self.of_device(addr) {
+            Some(kept) => kept.known().page(),
+            None => None,
+        }
     }
 
     /// What is known of the VOUT_MODE of the device with an address, on the page that is selected;
@@ -109,7 +109,10 @@ impl<'p> Late<'p> {
         ensures { (profile : List DeviceParts) (start : StartData) (past : List PastData) → HasSeen self.now profile start past
             → result ≡ mode_after start profile past addr }
     {
-        mode_in(self.profile, self.known.as_slice(), addr)
+        match self.of_device(addr) {
+            Some(kept) => kept.known().mode(),
+            None => KnownMode::NoPage,
+        }
     }
 
     /// The value of PAGE with [`Start::Late`]. Where it is known, it is the same with each start; else
@@ -118,7 +121,10 @@ impl<'p> Late<'p> {
         ensures { (profile : List DeviceParts) (start : StartData) (past : List PastData) → HasSeen self.now profile start past
             → result ≡ page_after LateStart profile past addr }
     {
-        page_in(self.profile, self.told.as_slice(), addr)
+        match self.late_of_device(addr) {
+            Some(kept) => kept.known().page(),
+            None => None,
+        }
     }
 
     /// What would be known of this VOUT_MODE with [`Start::Late`]. Unless it is [`KnownMode::Unknown`], it
@@ -127,7 +133,10 @@ impl<'p> Late<'p> {
         ensures { (profile : List DeviceParts) (start : StartData) (past : List PastData) → HasSeen self.now profile start past
             → result ≡ mode_after LateStart profile past addr }
     {
-        mode_in(self.profile, self.told.as_slice(), addr)
+        match self.late_of_device(addr) {
+            Some(kept) => kept.known().mode(),
+            None => KnownMode::NoPage,
+        }
     }
 
     /// Whether this VOUT_MODE is assumed: with [`Start::Late`] it would be [`KnownMode::Unknown`].
@@ -135,7 +144,7 @@ impl<'p> Late<'p> {
         ensures { (profile : List DeviceParts) (start : StartData) (past : List PastData) → HasSeen self.now profile start past
             → result ≡ is_assumed_after profile past addr }
     {
-        is_unknown(mode_in(self.profile, self.told.as_slice(), addr))
+        is_unknown(self.mode_late(addr))
     }
 
     /// The value of PHASE of the device with an address, ffh for all phases: the last one that was
@@ -145,50 +154,70 @@ impl<'p> Late<'p> {
         ensures { (profile : List DeviceParts) (start : StartData) (past : List PastData) → HasSeen self.now profile start past
             → result ≡ phase_after profile past addr }
     {
-        match self.profile.device(addr) {
-            Some(device) if device.phases().is_some() => self.phases.last(addr),
-            Some(_) | None => None,
+        let device = self.profile.device(addr)?;
+        if !device.phases().is_some() {
+            return None;
         }
+        match self.of_device(addr) {
+            Some(kept) => kept.phase(),
+            None => None,
+        }
+    }
+
+    // What is kept of the device with an address.
+    fn of_device(&self, addr: u8) -> Option<&Kept>
+        ensures { (profile : List DeviceParts) (start : StartData) (past : List PastData) → HasSeen self.now profile start past
+            → option_map (λ one. one.now) result ≡ option_map (λ device. kept start device past) (device_with addr profile) }
+    {
+        kept_at(self.profile, self.known.as_slice(), addr)
+    }
+
+    // .. had the capture begun in the middle.
+    fn late_of_device(&self, addr: u8) -> Option<&Kept>
+        ensures { (profile : List DeviceParts) (start : StartData) (past : List PastData) → HasSeen self.now profile start past
+            → option_map (λ one. one.now) result ≡ option_map (λ device. kept LateStart device past) (device_with addr profile) }
+    {
+        kept_at(self.profile, self.told.as_slice(), addr)
     }
 }
 
 // A line was dropped: forgets what a start does then, of the device at each address.
-fn forget_each(known: &mut [Known], start: Start)
-    ensures { (profile : List DeviceParts) (now : DeviceParts → KnownPaging) → Keeps known.old profile now
-        → Keeps known.new profile (λ device. forget_paging start (now device)) }
+fn forget_each(kept: &mut [Kept], start: Start)
+    ensures { (profile : List DeviceParts) (now : DeviceParts → KeptData) → Keeps kept.old profile now
+        → Keeps kept.new profile (λ device. kept_dropped start (now device)) }
 {
-    for kept in known.iter_mut() {
-        kept.forget_paging(start);
+    for one in kept.iter_mut() {
+        one.drop_line(start);
     }
 }
 
 // What is known at first of the device at each address. It is not inlined, so that what it is made of is off
 // the stack after it.
 #[inline(never)]
-fn all_first_known(profile: &Profile, start: Start) -> ArrayVec<Known, 128>
-    ensures { Keeps result.items profile.now (first_known start) }
+fn all_first(profile: &Profile, start: Start) -> ArrayVec<Kept, 128>
+    ensures { Keeps result.items profile.now (first_kept start) }
 {
     accepted_bus(profile);
-    let mut known = ArrayVec::new();
+    let mut kept = ArrayVec::new();
     for address in 0..ADDRESSES {
-        known.push(first_known(profile, address, start));
+        kept.push(first(profile, address, start));
     }
-    known
+    kept
 }
 
 // What is known at first of the device with an address, if there is one.
-fn first_known(profile: &Profile, address: u8, start: Start) -> Known
-    ensures { (device : DeviceParts) → device_with address profile.now ≡ Some device → result ≡ first_known start device }
+fn first(profile: &Profile, address: u8, start: Start) -> Kept
+    ensures { (device : DeviceParts) → device_with address profile.now ≡ Some device → result ≡ first_kept start device }
 {
     match profile.device(address) {
-        Some(device) => Known::new(device, start),
-        None => Known::default(),
+        Some(device) => Kept::new(device, start),
+        None => Kept::default(),
     }
 }
 
-// What is kept of the device with an address.
-fn kept_at<'k>(profile: &Profile, kept: &'k [Known], addr: u8) -> Option<&'k Known>
-    ensures { option_map (λ known. known.now) result ≡ kept_at kept.now profile.now addr }
+// .. in a list.
+fn kept_at<'k>(profile: &Profile, kept: &'k [Kept], addr: u8) -> Option<&'k Kept>
+    ensures { option_map (λ one. one.now) result ≡ kept_at kept.now profile.now addr }
 {
     match profile.device(addr) {
         Some(_) => kept.get(usize::from(addr)),
@@ -196,115 +225,82 @@ fn kept_at<'k>(profile: &Profile, kept: &'k [Known], addr: u8) -> Option<&'k Kno
     }
 }
 
-// PAGE of the device with an address, by what is kept.
-fn page_in(profile: &Profile, kept: &[Known], addr: u8) -> Option<u8>
-    ensures { (now : DeviceParts → KnownPaging) → Keeps kept.now profile.now now
-        → result ≡ page_of now (device_with addr profile.now) }
-{
-    match kept_at(profile, kept, addr) {
-        Some(known) => known.page(),
-        None => None,
-    }
-}
-
-// What is known of the VOUT_MODE of the device with an address, by what is kept.
-fn mode_in(profile: &Profile, kept: &[Known], addr: u8) -> KnownMode
-    ensures { (now : DeviceParts → KnownPaging) → Keeps kept.now profile.now now → result ≡ mode_of now (device_with addr profile.now) }
-{
-    match kept_at(profile, kept, addr) {
-        Some(known) => known.mode(),
-        None => KnownMode::NoPage,
-    }
-}
-
 // Takes what a transaction tells.
-fn learn_transaction(
-    profile: &Profile,
-    known: &mut [Known],
-    start: Start,
-    transaction: &Transaction,
-)
-    ensures { (now : DeviceParts → KnownPaging) → Keeps known.old profile.now now
-        → Keeps known.new profile.now (λ device. learn_transaction start device (now device) (transaction_data transaction.now)) }
+fn take_transaction(profile: &Profile, kept: &mut [Kept], start: Start, transaction: &Transaction)
+    ensures { (now : DeviceParts → KeptData) → Keeps kept.old profile.now now
+        → Keeps kept.new profile.now (λ device. kept_after start device (now device) (transaction_data transaction.now)) }
 {
     match transaction {
-        Transaction::Write { parts } => learn_parts(profile, known, start, parts.as_slice()),
-        Transaction::Refused { parts, .. } => learn_parts(profile, known, start, parts.as_slice()),
+        Transaction::Write { parts } => take_parts(profile, kept, start, parts.as_slice()),
+        Transaction::Refused { parts, .. } => take_parts(profile, kept, start, parts.as_slice()),
         Transaction::Read {
             addr,
             code,
             reply,
             ..
-        } => learn_bytes(profile, known, *addr, *code, reply.as_slice()),
+        } => take_read(profile, kept, *addr, *code, reply.as_slice()),
         Transaction::Call { .. } | Transaction::Alert { .. } | Transaction::NoAlert => {}
     }
 }
 
-// Takes what complete parts wrote.
-fn learn_parts(profile: &Profile, known: &mut [Known], start: Start, parts: &[Part])
-    ensures { (now : DeviceParts → KnownPaging) → Keeps known.old profile.now now
-        → Keeps known.new profile.now (λ device. fold (learn_written start device) (now device) (map told_by_part (map part_data parts.now))) }
+// Takes bytes of the register with a code that the device with an address replied.
+fn take_read(profile: &Profile, kept: &mut [Kept], addr: u8, code: u8, bytes: &[u8])
+    ensures { (now : DeviceParts → KeptData) → Keeps kept.old profile.now now
+        → Keeps kept.new profile.now (λ device. kept_read device (now device) (record { addr = addr; code = code; bytes = bytes.now })) }
 {
-    for part in parts {
-        learn_written(
-            profile,
-            known,
-            start,
-            part.addr,
-            part.code,
-            part.bytes.as_slice(),
-        );
-    }
-}
-
-// Takes bytes that were written to the device with an address with a code.
-fn learn_written(
-    profile: &Profile,
-    known: &mut [Known],
-    start: Start,
-    addr: u8,
-    code: u8,
-    bytes: &[u8],
-)
-    ensures { (now : DeviceParts → KnownPaging) → Keeps known.old profile.now now
-        → Keeps known.new profile.now (λ device. learn_written start device (now device) (record { addr = addr; code = code; bytes = bytes.now })) }
-{
-    learn_bytes(profile, known, addr, code, bytes);
-    if untells_mode(code, bytes) {
-        forget_modes(profile, known, start, addr);
-    }
-}
-
-// Takes bytes of the register with a code of the device with an address.
-fn learn_bytes(profile: &Profile, known: &mut [Known], addr: u8, code: u8, bytes: &[u8])
-    ensures { (now : DeviceParts → KnownPaging) → Keeps known.old profile.now now
-        → Keeps known.new profile.now (λ device. learn_told device (now device) (record { addr = addr; code = code; bytes = bytes.now })) }
-{
-    let [value] = bytes else {
-        return;
-    };
-    if !is_paging(code) {
-        return;
-    }
     let Some(device) = profile.device(addr) else {
         return;
     };
     let place = usize::from(addr);
-    if place < known.len() {
-        known[place].learn(device, code, *value);
+    if place < kept.len() {
+        kept[place].take(device, code, bytes);
     }
 }
 
-// VOUT_MODE of the device with an address is untold.
-fn forget_modes(profile: &Profile, known: &mut [Known], start: Start, addr: u8)
-    ensures { (now : DeviceParts → KnownPaging) → Keeps known.old profile.now now
-        → Keeps known.new profile.now (λ device. if nat_eq addr device.address then forget_modes start (now device) else now device) }
+// Takes what complete parts of a packet wrote: of each device that takes some.
+fn take_parts(profile: &Profile, kept: &mut [Kept], start: Start, parts: &[Part])
+    ensures { (now : DeviceParts → KeptData) → Keeps kept.old profile.now now
+        → Keeps kept.new profile.now (λ device. kept_parts start device (map part_data parts.now) (now device)) }
 {
-    let Some(_) = profile.device(addr) else {
+    if !may_tell(parts) {
+        return;
+    }
+    for i in 0..profile.len() {
+        take_parts_at(profile, kept, start, i, parts);
+    }
+}
+
+// Whether complete parts may change what is kept of a device that takes some.
+#[inline]
+fn may_tell(parts: &[Part]) -> bool
+    ensures { result ≡ false → (start : StartData) (device : DeviceParts) (k : KeptData) → kept_parts start device (map part_data parts.now) k ≡ k }
+{
+    match parts {
+        [only] => is_followed(only.code, only.bytes.as_slice()),
+        _ => true,
+    }
+}
+
+// Whether a write with a code and these data changes what is kept of a device that takes it.
+#[inline]
+fn is_followed(code: u8, bytes: &[u8]) -> bool
+    ensures { result ≡ false → (start : StartData) (device : DeviceParts) (k : KeptData) → kept_write start device code bytes.now k ≡ k }
+{
+    is_paging(code) || is_phase(code) || untells_mode(code, bytes)
+}
+
+// Takes what complete parts wrote, of the device at an index, if it is one.
+fn take_parts_at(profile: &Profile, kept: &mut [Kept], start: Start, i: usize, parts: &[Part])
+    requires { i < length profile.now }
+    ensures { (now : DeviceParts → KeptData)
+        → Keeps kept.old profile.now (written_to (take i profile.now) (λ device. kept_parts start device (map part_data parts.now) (now device)) now)
+        → Keeps kept.new profile.now (written_to (take (i + 1) profile.now) (λ device. kept_parts start device (map part_data parts.now) (now device)) now) }
+{
+    let Some(device) = profile.device_at(i) else {
         return;
     };
-    let place = usize::from(addr);
-    if place < known.len() {
-        known[place].forget_modes(start);
+    let place = usize::from(device.address());
+    if place < kept.len() {
+        kept[place].take_parts(device, start, parts);
     }
 }

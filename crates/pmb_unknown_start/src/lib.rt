@@ -19,13 +19,14 @@
 //! ```
 #![tactic(auto)]
 
+mod kept;
 mod known;
 mod late;
 pub mod laws;
 mod mode;
-mod phases;
 mod restores;
 mod start;
+mod taken;
 
 pub use late::Late;
 pub use mode::KnownMode;

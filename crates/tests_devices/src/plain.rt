@@ -9,5 +9,5 @@ mod legs;
 mod profiles;
 mod registers;
 
-pub(crate) use device::PlainDevice;
-pub(crate) use profiles::{EVERY_KIND, PROTECTED, many_devices};
+pub(crate) use device::{PlainDevice, PlainWrite};
+pub(crate) use profiles::{EVERY_KIND, OTHERS, PROTECTED, many_devices};

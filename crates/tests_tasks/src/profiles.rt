@@ -2,7 +2,7 @@
 
 use pmb_hints::{Place, hints};
 use pmb_io::Io;
-use pmb_keys::{Ignored, array_of, only, present, read_command, read_device_keys};
+use pmb_keys::{Addresses, array_of, only, present, read_command, read_device_keys};
 use pmb_profile_text::describe;
 use pmb_table::{
     BusProfile, FaultKind, Form, PecMode, Profile, ProfileFault, SAMPLE, bit_name, by_name,
@@ -24,7 +24,7 @@ fn standard_commands_have_names(rt: HostRuntime) -> Result<(), Fail> {
 
 /// What the keys of a device say of its address and of packet error codes.
 fn address_and_pec(value: &Value) -> Result<(u8, PecMode), FaultKind> {
-    match read_device_keys(value, &[], &Ignored::none()) {
+    match read_device_keys(value, &[], &Addresses::none(), &Addresses::none()) {
         Ok(keys) => Ok((keys.address, keys.pec)),
         Err(what) => Err(what),
     }
@@ -43,6 +43,22 @@ fn keys_are_read(rt: HostRuntime) -> Result<(), Fail> {
     let first = commands.first().ok_or("no command")?;
     let command = read_command(rt.alloc(), first, 1, &[])?;
     assert!(rt; command.entry.code == 0x88);
+    Ok(())
+}
+
+#[test]
+fn a_device_listens_at_other_addresses(rt: HostRuntime) -> Result<(), Fail> {
+    let text =
+        "device = [{ address = 16, pec = 'on', also = [91, 16] }, { address = 91, pec = 'off' }]";
+    let profile = Profile::from_toml(rt.alloc(), text.as_bytes())?;
+    let device = profile.device(0x10).ok_or("no device")?;
+    assert!(rt; device.listens(0x5b));
+    assert!(rt; device.listens(0x10));
+    assert!(rt; !device.listens(0x11));
+    assert!(rt; device.also().addresses().as_slice() == b"\x10\x5b".as_slice());
+    let other = profile.device(0x5b).ok_or("no device")?;
+    assert!(rt; !other.listens(0x5b));
+    assert!(rt; other.also().addresses().is_empty());
     Ok(())
 }
 

@@ -3,7 +3,9 @@ use Rattle.std.specs.Prelude.{◌≡◌, ℕ, ◌≤◌, ◌⊎◌, Bool, true, 
 use Rattle.pmb_command.specs.Parts.{DeviceParts}
 use Rattle.pmb_command.specs.Bus.{IsDevice}
 use Rattle.pmb_bus.specs.Address.{write_address, read_address}
+use Rattle.pmb_transaction.specs.Body.{IsWriteBody, WriteBody}
 use Rattle.pmb_transaction.specs.Reason.{Whether}
+use Rattle.pmb_transaction.specs.Transaction.{PartData}
 use Rattle.pmb_leg.specs.declared.place.LegPlace.{LegPlace}
 use Rattle.pmb_leg.specs.declared.place.LegPlace.TheVariants.{First, Later}
 use Rattle.pmb_leg.specs.Leg.{Written, IsRequest}
@@ -16,7 +18,7 @@ use Rattle.pmb_device.specs.declared.device_packet.LegPhase.TheVariants as phase
 use Rattle.pmb_device.specs.declared.device_packet.DevicePacket.{DevicePacket}
 use Rattle.pmb_device.specs.Legs.{Leg, Legs, Outside, Inside, behind_address, is_to, leg_place, sent, some_is_to}
 use Rattle.pmb_device.specs.Rules.{IsRead, IsReplyTo, IsWritten, TakesAll, given_behind, is_ended, waits_behind}
-use Rattle.pmb_device.specs.Ends.{Refuses}
+use Rattle.pmb_device.specs.Ends.{Refuses, TookPart}
 
 -- ---- its own leg
 
@@ -206,3 +208,12 @@ pub record IsAskedIn (x : DevicePacket) (device : DeviceParts) (state : DeviceSt
   pub not_noted : x.noted ≡ None
   pub leg_is : x.leg ≡ record { device = device; place = First; bytes = body }
   pub taken : TakesAll device First [] body
+
+-- ---- what it took
+
+-- The bytes that it keeps are the body of a complete write, which the device took in these legs.
+pub record KeepsWrite (x : DevicePacket) (device : DeviceParts) (legs : Legs) : Type 0 where
+  pub device_is : x.leg.device ≡ device
+  pub write : IsWriteBody device x.leg.bytes
+  pub took : (part : PartData) → part.addr ≡ device.address
+      → WriteBody device part.code part.bytes part.pec x.leg.bytes → TookPart device legs part

@@ -8,6 +8,7 @@ use Rattle.pmb_device.specs.Device.{DeviceStandsAt}
 use Rattle.pmb_devices.specs.declared.bus.Bus.{Bus}
 use Rattle.pmb_devices.specs.Bus.{AreAnswered, AnsweredSignal, legs_after}
 use Rattle.pmb_devices.specs.Runs.{Runs, first_members}
+use Rattle.pmb_devices.specs.machine.Others.{some_listens}
 
 -- What a bus went through since it was made: the stretches that STOP ended; each device with its
 -- state after the last STOP, or its first state; and each signal since then, with its answer.
@@ -30,6 +31,7 @@ pub record BusStandsAt (bus : Bus) (standing : BusStanding) : Type 0 where
   pub exact : vec_capacity bus.devices ≡ length bus.devices.items
   pub accepted : IsBus bus.profile.now
   pub profile : map (λ member. member.device) standing.members ≡ bus.profile.now
+  pub listens : bus.listens ≡ some_listens bus.profile.now
   pub runs : Runs (first_members bus.profile.now) standing.past standing.members
   pub devices : AllStand (legs_after Outside standing.history) bus.devices.items standing.members
   pub answered : AreAnswered standing.members Outside standing.history

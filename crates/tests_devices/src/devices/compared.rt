@@ -1,7 +1,7 @@
 //! A bus beside devices by the rules in words, and beside registers to which is applied what a
 //! reader reads of the events.
 
-use crate::plain::PlainDevice;
+use crate::plain::{PlainDevice, PlainWrite};
 use pmb_bus::Event;
 use pmb_device::{DeviceSignal, HostSignal};
 use pmb_devices::Bus;
@@ -83,10 +83,46 @@ impl<'p> Compared<'p> {
         if signal != HostSignal::Stop {
             return Ok(true);
         }
+        self.take_others()?;
         if !self.refused {
             self.alike = self.alike.saturating_add(1);
         }
         Ok(self.hold_alike())
+    }
+
+    /// Each plain device takes what was written at its other addresses, from the least one on.
+    fn take_others(&mut self) -> Result<(), AllocError> {
+        for i in 0..self.profile.len() {
+            let Some(device) = self.profile.device_at(i) else {
+                return Ok(());
+            };
+            for address in 0..128u8 {
+                if address != device.address() && device.listens(address) {
+                    self.take_at(i, address)?;
+                }
+            }
+        }
+        Ok(())
+    }
+
+    fn take_at(&mut self, i: usize, address: u8) -> Result<(), AllocError> {
+        let Some(write) = self.written_at(address)? else {
+            return Ok(());
+        };
+        match self.plain.as_mut_slice().get_mut(i) {
+            Some(device) => device.take(&write),
+            None => Ok(()),
+        }
+    }
+
+    /// What was written to the plain device with an address.
+    fn written_at(&self, address: u8) -> Result<Option<PlainWrite>, AllocError> {
+        for device in self.plain.iter() {
+            if device.address() == address {
+                return device.last_write();
+            }
+        }
+        Ok(None)
     }
 
     /// Has the reader take an event, and applies what it read. A refused event stays: from it on

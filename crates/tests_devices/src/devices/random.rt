@@ -2,7 +2,7 @@
 
 use crate::compare::{ensure, same};
 use crate::devices::compared::Compared;
-use crate::plain::{EVERY_KIND, PROTECTED, many_devices};
+use crate::plain::{EVERY_KIND, OTHERS, PROTECTED, many_devices};
 use plain_packets::Random;
 use pmb_bus::pec_of;
 use pmb_device::HostSignal;
@@ -317,7 +317,7 @@ fn act_by_the_rules<R: Abort>(
     Ok(())
 }
 
-// 24,000 lists in all.
+// 30,000 lists in all.
 
 #[test]
 fn the_sample_acts_by_the_rules(rt: HostRuntime) -> Result<(), Fail> {
@@ -332,6 +332,11 @@ fn every_kind_acts_by_the_rules(rt: HostRuntime) -> Result<(), Fail> {
 #[test]
 fn protected_devices_act_by_the_rules(rt: HostRuntime) -> Result<(), Fail> {
     act_by_the_rules(&rt, rt.alloc(), PROTECTED.as_bytes(), 0x0010_8040, 4_000)
+}
+
+#[test]
+fn devices_with_other_addresses_act_by_the_rules(rt: HostRuntime) -> Result<(), Fail> {
+    act_by_the_rules(&rt, rt.alloc(), OTHERS.as_bytes(), 0x5b20_2122, 6_000)
 }
 
 #[test]

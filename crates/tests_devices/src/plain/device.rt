@@ -33,6 +33,13 @@ enum Effect {
     },
 }
 
+/// A complete write: its code and its data.
+#[derive(Drop)]
+pub struct PlainWrite {
+    code: u8,
+    data: Vec<u8>,
+}
+
 /// A simulated device by the rules in words.
 #[derive(Drop)]
 pub struct PlainDevice<'p> {
@@ -41,6 +48,8 @@ pub struct PlainDevice<'p> {
     registers: PlainRegisters<'p>,
     /// The legs since the last STOP; the last one is under way.
     legs: Vec<PlainLeg>,
+    /// What was written to it in the packet before the last STOP.
+    last_write: Option<PlainWrite>,
 }
 
 /// What is against the rules is not so; want of memory is told.
@@ -60,7 +69,12 @@ impl<'p> PlainDevice<'p> {
             device,
             registers: PlainRegisters::new(alloc, device)?,
             legs: Vec::new(alloc),
+            last_write: None,
         })
+    }
+
+    pub fn address(&self) -> u8 {
+        self.device.address()
     }
 
     /// The selected page.
@@ -77,7 +91,7 @@ impl<'p> PlainDevice<'p> {
     pub fn on(&mut self, signal: HostSignal) -> Result<DeviceSignal, AllocError> {
         if signal == HostSignal::Stop {
             let effect = self.effect(self.legs.as_slice())?;
-            self.carry_out(effect)?;
+            self.last_write = self.carry_out(effect)?;
             self.legs.clear();
             return Ok(DeviceSignal::Silent);
         }
@@ -362,19 +376,65 @@ impl<'p> PlainDevice<'p> {
         }
     }
 
-    fn carry_out(&mut self, effect: Effect) -> Result<(), AllocError> {
+    /// Does it, and returns what was written.
+    fn carry_out(&mut self, effect: Effect) -> Result<Option<PlainWrite>, AllocError> {
         match effect {
-            Effect::Nothing => {}
-            Effect::Note(bit) => self.registers.note(bit),
+            Effect::Nothing => Ok(None),
+            Effect::Note(bit) => {
+                self.registers.note(bit);
+                Ok(None)
+            }
             Effect::Write { code, alone, data } => {
-                if self.is_disabled(code, data.as_slice()) {
-                    self.registers.note(BAD_VALUE);
-                } else {
-                    self.registers
-                        .write(self.alloc, code, alone, data.as_slice())?;
-                }
+                self.write(code, alone, data.as_slice())?;
+                Ok(Some(PlainWrite { code, data }))
             }
         }
-        Ok(())
+    }
+
+    fn write(&mut self, code: u8, alone: bool, data: &[u8]) -> Result<(), AllocError> {
+        if self.is_disabled(code, data) {
+            self.registers.note(BAD_VALUE);
+            return Ok(());
+        }
+        self.registers.write(self.alloc, code, alone, data)
+    }
+
+    /// What was written to it in the packet before the last STOP.
+    pub fn last_write(&self) -> Result<Option<PlainWrite>, AllocError> {
+        match &self.last_write {
+            Some(write) => Ok(Some(PlainWrite {
+                code: write.code,
+                data: Vec::from_slice(self.alloc, write.data.as_slice())?,
+            })),
+            None => Ok(None),
+        }
+    }
+
+    /// Takes what was written at another address, if it is a write of its own commands.
+    pub fn take(&mut self, write: &PlainWrite) -> Result<(), AllocError> {
+        let data = write.data.as_slice();
+        let form = match self.device.entry(write.code) {
+            Some(entry) => entry.shape.write,
+            None => None,
+        };
+        let Some(form) = form else {
+            return Ok(());
+        };
+        let fits = match form {
+            Form::Zero => data.is_empty(),
+            Form::One => data.len() == 1,
+            Form::Two => data.len() == 2,
+            Form::Four => data.len() == 4,
+            Form::Eight => data.len() == 8,
+            Form::Block => true,
+        };
+        let lacks = match data {
+            [page] => write.code == 0x00 && *page != 0xff && *page >= self.device.pages(),
+            _ => false,
+        };
+        if !fits || lacks {
+            return Ok(());
+        }
+        self.write(write.code, form == Form::Zero, data)
     }
 }

@@ -114,6 +114,77 @@ command = [
 ]
 "#;
 
+/// Devices that take what is written at other addresses: one that lists its own too, one that keeps to
+/// WRITE_PROTECT, and one that lists a device which lists it. 5bh is the global address of all three: some
+/// of its commands they lack, or have in another form or for other pages.
+pub const OTHERS: &str = r#"[[device]]
+address = 0x20
+pec = "off"
+pages = 3
+also = [0x5b, 0x20, 0x22]
+standard = false
+command = [
+    { name = "PAGE" },
+    { name = "OPERATION" },
+    { name = "CLEAR_FAULTS" },
+    { name = "VOUT_COMMAND" },
+    { name = "STATUS_CML" },
+    { code = 0xe0, write = "two", read = "two" },
+    { code = 0xe1, write = "block", read = "block", paged = true },
+    { code = 0xe2, write = "one", read = "one" },
+    { code = 0xe3, read = "one" },
+    { code = 0xe5, write = "zero", read = "two" },
+]
+
+[[device]]
+address = 0x5b
+pec = "optional"
+pages = 4
+standard = false
+command = [
+    { name = "PAGE" },
+    { name = "OPERATION" },
+    { name = "CLEAR_FAULTS" },
+    { name = "WRITE_PROTECT" },
+    { name = "VOUT_COMMAND" },
+    { name = "STATUS_CML" },
+    { code = 0xe0, write = "two", read = "two" },
+    { code = 0xe1, write = "block", read = "block", call = "block" },
+    { code = 0xe2, write = "block", read = "block" },
+    { code = 0xe3, write = "one", read = "one" },
+    { code = 0xe5, write = "zero" },
+]
+
+[[device]]
+address = 0x21
+pec = "optional"
+pages = 2
+protect = true
+also = [0x5b]
+standard = false
+command = [
+    { name = "PAGE" },
+    { name = "OPERATION" },
+    { name = "CLEAR_FAULTS" },
+    { name = "WRITE_PROTECT" },
+    { name = "VOUT_COMMAND" },
+    { name = "STATUS_CML" },
+    { code = 0xe0, write = "one", read = "one" },
+]
+
+[[device]]
+address = 0x22
+pec = "on"
+also = [0x20, 0x22, 0x5b]
+standard = false
+command = [
+    { name = "OPERATION" },
+    { name = "VOUT_COMMAND" },
+    { name = "STATUS_CML", read = "none" },
+    { code = 0xe0, write = "two", read = "two" },
+]
+"#;
+
 /// What the text of 64 devices begins with; one item of it, but for its address; and its end.
 const MANY_FRONT: &str = "device = [\n";
 

@@ -5,6 +5,7 @@ use Rattle.pmb_transaction.specs.Transaction.{TransactionData}
 use Rattle.pmb_note.specs.Paging.{paging}
 use Rattle.pmb_unknown_start.specs.declared.start.Start.TheVariants.{AllKnown}
 use Rattle.pmb_unknown_start.specs.Past.{PastData, Said, Dropped}
+use Rattle.pmb_unknown_start.specs.Taken.{taken}
 use Rattle.pmb_fact_stream.specs.Lost.{lost_in}
 use Rattle.pmb_json.specs.Pieces.{SameTimes}
 use Rattle.pmb_json.proofs.Losses.{loses_one, same_lost}
@@ -41,12 +42,12 @@ returns c choice profile place there times theirs before ts within n m events sp
           (subst (λ (past : List PastData). Agree profile start AllKnown (within ++ more) past) (sym same.2)
           (record {
             pages = λ addr number known. page_mended start before within ts more
-                (λ device n begin reach. c.what_may_be_reached_stays_known.ensures.page start device
-                (paging device before) within more (before ++ ts) n begin reach) profile can addr number known;
+                (λ device n begin reach none. c.what_may_be_reached_stays_known.ensures.page start device
+                (paging device (map (taken device) before)) within more (before ++ ts) n begin reach none) profile can addr number known;
             phases = λ addr number known. phase_mended start before within ts more profile can addr number known;
             modes = λ addr. mode_mended start before within ts more
-                (λ device begin reach. c.what_may_be_reached_stays_known.ensures.mode start device
-                (paging device before) within more (before ++ ts) begin reach) profile can addr;
+                (λ device begin reach none. c.what_may_be_reached_stays_known.ensures.mode start device
+                (paging device (map (taken device) before)) within more (before ++ ts) begin reach none) profile can addr;
           }));
     } in
     spans_said c.objects_are_of_facts.ensures SameTimes choice profile start AllKnown Same stand place there

@@ -1,8 +1,13 @@
-use Rattle.std.proofs.Common.{ℕ, map, subst, ◌∙◌}
+use Rattle.std.proofs.Common.{◌≡◌, ℕ, List, Some, map, subst, sym, ◌∙◌}
+use Rattle.std.proofs.lemmas.Result.{IfOk-at_ok}
+use Rattle.toml.specs.View.{view}
 use Rattle.pmb_command.specs.Parts.{IsNew, all_same, command_with, has_one_mode}
 use Rattle.pmb_command.specs.Protection.{begins_protected, can_protect}
+use Rattle.pmb_keys.specs.Addresses.{named_address}
 use Rattle.pmb_keys.specs.DeviceKeysView.{keys_parts}
-use Rattle.pmb_table.proofs.Accepted.{commands_of, go_together, holds_where, items_of, of_address}
+use Rattle.pmb_keys.specs.machine.Addresses.{AreAmong}
+use Rattle.pmb_keys.proofs.Named.{AreNamed, if_read}
+use Rattle.pmb_table.proofs.Accepted.{commands_of, go_together, holds_where, items_of, of_part}
 use Rattle.pmb_table.proofs.device_reader.read_device.Goals as goal
 
 pub device_from-requires : goal.device_from-requires
@@ -30,7 +35,7 @@ device_from-requires c = λ together.
 pub returns-clause-own_address : goal.returns-clause-own_address
 returns-clause-own_address c =
     let before = c.args.before.now in
-    of_address (λ (a : ℕ). IsNew a (map (λ x. x.address) before)) c.in-Ok.keys.address c.device_from.result
+    of_part (λ d. d.address) (λ (a : ℕ). IsNew a (map (λ x. x.address) before)) c.in-Ok.keys.address c.device_from.result
     c.device_from.ensures.address
     (subst (IsNew c.in-Ok.keys.address) (c.as_slice.ensures.value ∙ c.addresses_of-addresses.ensures)
     c.in-Ok.ensures.own_address)
@@ -38,5 +43,25 @@ returns-clause-own_address c =
 -- and which is not ignored
 pub returns-clause-not_ignored : goal.returns-clause-not_ignored
 returns-clause-not_ignored c =
-    of_address (λ (a : ℕ). IsNew a c.args.ignored.now) c.in-Ok.keys.address c.device_from.result
+    of_part (λ d. d.address) (λ (a : ℕ). IsNew a c.args.ignored.now) c.in-Ok.keys.address c.device_from.result
     c.device_from.ensures.address c.in-Ok.ensures.not_ignored
+
+-- the value's table names it
+pub returns-clause-named : goal.returns-clause-named
+returns-clause-named c =
+    let d = view c.args.value.now in
+    let are : AreNamed c.args.named.now d (keys_parts c.in-Ok.keys) =
+    IfOk-at_ok (AreNamed c.args.named.now d) (sym c.in-Ok.ensures.read)
+    (if_read c.as_slice.result.now c.args.ignored.now c.args.named.now d) in
+    of_part (λ x. x.address) (λ (a : ℕ). named_address d ≡ Some a) c.in-Ok.keys.address c.device_from.result
+    c.device_from.ensures.address are.own
+
+-- and tables name the others
+pub returns-clause-also : goal.returns-clause-also
+returns-clause-also c =
+    let d = view c.args.value.now in
+    let are : AreNamed c.args.named.now d (keys_parts c.in-Ok.keys) =
+    IfOk-at_ok (AreNamed c.args.named.now d) (sym c.in-Ok.ensures.read)
+    (if_read c.as_slice.result.now c.args.ignored.now c.args.named.now d) in
+    of_part (λ x. x.also) (λ (addresses : List ℕ). AreAmong c.args.named.now addresses) c.in-Ok.keys.also
+    c.device_from.result c.device_from.ensures.also are.also

@@ -12,6 +12,7 @@ returns c = record {
   exact = omega (arith, c.loop-i.invariant.count, c.loop-i.invariant.room, c.len-i-end.ensures.len, c.loop-i-test.false);
   accepted = c.accepted_bus.ensures;
   profile = first_devices c.args.profile.now;
+  listens = c.some_listens.ensures;
   runs = refl;
   devices = subst (λ (ds : List DeviceParts). AllStand Outside c.loop-i.devices.items (first_members ds))
       (take_all c.loop-i.i c.args.profile.now (omega (arith, c.len-i-end.ensures.len, c.loop-i-test.false)))

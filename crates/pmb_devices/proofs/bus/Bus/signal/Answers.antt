@@ -7,7 +7,8 @@ use Rattle.pmb_devices.specs.declared.bus.Bus.{Bus}
 use Rattle.pmb_devices.specs.Bus.{legs_after}
 use Rattle.pmb_devices.specs.Recorded.{RecordedData}
 use Rattle.pmb_devices.specs.machine.Standing.{AllStand}
-use Rattle.pmb_devices.specs.machine.Hands.{HandsOn}
+use Rattle.pmb_devices.specs.machine.Hands.{Gives}
+use Rattle.pmb_devices.specs.machine.Others.{some_listens}
 use Rattle.pmb_devices.proofs.Signals.{takes}
 use Rattle.pmb_devices.proofs.bus.Bus.signal.Goals as goal
 
@@ -16,14 +17,14 @@ returns-clause-takes c = λ standing at.
     let legs = legs_after Outside standing.history in
     let stand = subst (λ (devices : List Device). AllStand legs devices standing.members)
     (sym c.as_mut_slice.ensures.value) at.devices in
-    let handed = c.hand_on-answer.ensures legs standing.members stand in
-    let items = with_items_is c.args.self.now.devices c.hand_on-answer.new.devices (omega arith) in
+    let given = c.give-answer.ensures legs standing.members stand (at.listens ∙ ap some_listens (sym at.profile)) in
+    let items = with_items_is c.args.self.now.devices c.give-answer.new.devices (omega arith) in
     let new : Bus = record {
       profile = c.args.self.now.profile;
-      devices =
-          with_items c.args.self.now.devices c.hand_on-answer.new.devices;
+      devices = with_items c.args.self.now.devices c.give-answer.new.devices;
+      listens = c.args.self.now.listens;
     } in
-    takes c.args.self.now new refl (at.exact ∙ sym c.args.self.now.devices.ok.0 ∙ new.devices.ok.0) standing at
-    c.args.signal c.new.result.result c.hand_on-answer.result
+    takes c.args.self.now new refl (at.exact ∙ sym c.args.self.now.devices.ok.0 ∙ new.devices.ok.0) refl standing at
+    c.args.signal c.new.result.result c.give-answer.result
     (ap (λ (r : RecordedData). r.result) c.new.ensures) c.transactions_are_applied.ensures
-    (subst (HandsOn legs c.args.signal standing.members c.hand_on-answer.result) (sym items) handed)
+    (subst (Gives legs c.args.signal standing.members c.give-answer.result) (sym items) given)
