@@ -220,16 +220,17 @@ def joined_uses(text):
 COMMENT = {".rt": r"//[/!]?", ".antt": r"--"}
 
 
-def rewrap(text, kind):
-    """A page or a source whose paragraphs that have grown too long are wrapped anew."""
-    return rewrap_page(text) if kind == ".md" else rewrap_comments(text, kind)
+def rewrap(text, kind, before=""):
+    """A page or a source whose paragraphs that have changed and grown too long are wrapped anew."""
+    known = set(before.split("\n"))
+    return rewrap_page(text, known) if kind == ".md" else rewrap_comments(text, kind, known)
 
 
-def rewrap_page(text, width=100):
+def rewrap_page(text, known, width=100):
     out, fenced, paragraph = [], False, []
 
     def end():
-        if any(len(it) > width for it in paragraph) and not any(it.startswith(("|", "#", "<", "!")) for it in paragraph):
+        if any(len(it) > width and it not in known for it in paragraph) and not any(it.startswith(("|", "#", "<", "!")) for it in paragraph):
             first = re.match(r"( *)((?:[-*]|\d+\.) +)?", paragraph[0])
             front = first[0]
             later = " " * len(front)
@@ -256,14 +257,14 @@ def rewrap_page(text, width=100):
     return "\n".join(out)
 
 
-def rewrap_comments(text, kind, width=None):
+def rewrap_comments(text, kind, known, width=None):
     width = width or {".rt": 120, ".antt": 120}[kind]
     out, paragraph = [], []
     front = ""
     fenced = False
 
     def end():
-        if any(len(it) > width for it in paragraph):
+        if any(len(it) > width and it not in known for it in paragraph):
             out.extend(wrapped(" ".join(it[len(front):] for it in paragraph), front, width))
         else:
             out.extend(paragraph)

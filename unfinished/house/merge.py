@@ -12,6 +12,7 @@ import os
 import re
 import shutil
 import sys
+from concurrent.futures import ThreadPoolExecutor
 from pathlib import Path
 
 sys.dont_write_bytecode = True
@@ -69,7 +70,8 @@ class Map:
                 self.dropped.append(rest)
             elif word == "say":
                 old, new = rest.split(" => ")
-                self.said.append((old, new))
+                gap = r"(?:[ \t]*\n[ \t]*(?://[/!]?|--)?)?[ \t]+|[ \t]*\n"
+                self.said.append((re.compile(rf"(?:{gap})".join(re.escape(it) for it in old.split())), new))
             else:
                 refusals.add(f"map:{number}: {line}")
 
@@ -117,14 +119,15 @@ class Merge:
         self.c_names = set()
         for header in root.glob("include/*.h"):
             self.c_names |= set(re.findall(r"\bpmb_\w+", re.sub(r"(?s)/\*.*?\*/", "", header.read_text(encoding="utf-8"))))
-        self.libraries = {}
+        self.libraries, self.origins = {}, {}
         for name in self.listed.crates:
             path = root / "crates" / name / "src/lib.rt"
-            if path.exists() and (name in self.map.of or name in self.map.dropped or name in self.map.parts):
+            if path.exists():
                 try:
                     self.libraries[name] = Library(path)
                 except ValueError as why:
-                    self.refusals.add(str(why))
+                    if name in self.map.of or name in self.map.dropped:
+                        self.refusals.add(str(why))
 
     # ---- what stands in the way
 
@@ -218,6 +221,11 @@ class Merge:
         elif segments:
             segments = renamed(names["proofs"], "/".join(segments), "/").split("/")
         return ".".join(["Rattle", self.map.of[old].new, kind] + [it for it in segments if it])
+
+    def called(self, match):
+        """A function of Rust as proofs by hand name it, `CRATE::module::function`."""
+        path = match[0].split("::")
+        return "::".join([self.map.crate(path[0])] + self.module_at(path[0], path[1:]))
 
     def path(self, path, home, comment=False):
         """A path of Rust, as a file of an old crate names it."""
@@ -361,13 +369,21 @@ class Merge:
                 if path[0] in modules:
                     path = tuple(self.module_at(part.old, list(path)))
                 else:
-                    path = self.handed_on(part.old, path)
-                    if path is None:
+                    origin = self.handed_on(part.old, path)
+                    if origin is None:
                         continue
-                    if self.map.crate(path[0]) == new:
-                        path = tuple(self.module_at(path[0], list(path[1:])))
+                    if self.map.crate(origin[0]) == new:
+                        path = tuple(self.module_at(origin[0], list(origin[1:])))
                     else:
+                        # (several parts may hand on the same from different crates: then once)
+                        while self.map.crate(path[0]) == new:
+                            path = self.libraries[path[0]].item(path[1])
                         path = tuple(self.path(path, None))
+                        name = alias or path[-1]
+                        same = [it for it in found if (it[1] or it[0][-1]) == name and self.origins.get((new, name)) == origin]
+                        self.origins[new, name] = origin
+                        if same:
+                            continue
                 if (path, alias) not in found:
                     found.append((path, alias))
         return found
@@ -512,8 +528,9 @@ class Merge:
             text = self.rust("\n".join("/// " + it for it in text.split("\n")), part.old)
             text = "\n".join(it[4:].rstrip() for it in text.split("\n"))
             text = self.names_in(text, "", part.old)
-            if several and doc:
-                doc += ["", f"# {part.heading}", ""]
+            if several:
+                doc += doc and [""] or [self.map.subjects[new], ""]
+                doc += [f"# {part.heading}", ""]
             doc += text.split("\n")
             for name, public in library.modules:
                 modules[renamed(names, name)] = public
@@ -537,6 +554,7 @@ class Merge:
         listed = self.merged_list()
         write(self.root / "crates.txt", listed.text())
         news = set(self.map.parts)
+        olds = "|".join(sorted(self.map.of, key=len, reverse=True))
         for name in tracked(self.root):
             path = self.root / name
             if MADE.search(name) or name == "crates.txt" or not TEXTS.search(name):
@@ -552,6 +570,8 @@ class Merge:
             text = re.sub(r"\bRattle\.([a-z][a-z0-9_]*)\.(specs|proofs)((?:\.[A-Za-z_][A-Za-z0-9_]*)*)", self.antt, text)
             if suffix == ".rt" and name not in self.library_files():
                 text = self.rust(text, home)
+            elif suffix == ".antt":
+                text = re.sub(rf"(?m)^(?!\s*--).*$", lambda line: re.sub(rf"(?<!\w)(?:{olds})(?:::{WORD})+", self.called, line[0]), text)
             elif suffix == ".edit":
                 text = self.edit(text, home)
             elif suffix == ".md":
@@ -578,19 +598,22 @@ class Merge:
                 text = self.lemma_table(text) if name == "docs/HACKING.md" else text
             if suffix in (".md", ".txt") and text != before:
                 text = without_repeats(text, news)
+                text = re.sub(rf"(?m)\b({'|'.join(news)})((?:, \1)+)(?!\w)", lambda it: it[1], text)
                 text = re.sub(r"\b(crates? [^;)\n]*)", lambda it: list_once(it[1], news), text) if suffix == ".txt" else text
-            for old, new in self.map.said:
-                text = text.replace(old, new)
+            if suffix in (".md", ".rt", ".antt", ".txt"):
+                text = self.say(text)
             if text != before:
                 if suffix in (".md", ".rt", ".antt"):
-                    text = rewrap(text, suffix)
+                    text = rewrap(text, suffix, before)
                 write(path, text)
         for name in self.library_files():
             path = self.root / name
-            text = read(path)
-            for old, new in self.map.said:
-                text = text.replace(old, new)
-            write(path, rewrap(text, ".rt"))
+            write(path, rewrap(self.say(read(path)), ".rt"))
+
+    def say(self, text):
+        for old, new in self.map.said:
+            text = old.sub(lambda it: new, text)
+        return text
 
     def library_files(self):
         return {f"crates/{new}/src/lib.rt" for new in self.map.parts}
@@ -653,7 +676,6 @@ class Merge:
     def joined_sections(self, text):
         """docs/promises.md: the sections of parts become one, each part under a heading of its own."""
         pieces = re.split(r"(?m)^(?=## )", text)
-        heading = lambda it: re.match(r"## (.*)\n", it)[1] if it.startswith("## ") else ""
         # (headings have the new names by now; the old ones stand beside them)
         held, order = {}, []
         for old, piece in zip(self.promised, pieces):
@@ -685,7 +707,9 @@ class Merge:
                         body = re.sub(rf"`{kind}/{module}`", f"`{kind}/{new}`", body)
                 for wrong, new in part.names["wrong"].items():
                     body = body.replace(f"`{wrong}`", f"`{new}`")
-                whole.append(f"### {part.heading}\n\n{body}\n")
+                headings = [self.map.of[it].heading for it in re.findall(r"\w+", old)]
+                heading = " and ".join([headings[0]] + [it[0].lower() + it[1:] for it in headings[1:]])
+                whole.append(f"### {heading}\n\n{body}\n")
             out.append("\n".join(whole) + "\n")
         return "".join(out)
 
@@ -695,9 +719,21 @@ class Merge:
         if not match:
             self.refusals.note("docs/HACKING.md has no table of lemma modules")
             return text
-        rows = lemma_rows(self.root)
-        order = list(self.merged_list().crates)
-        lines = [row_of(name, rows[name]) for name in order if name in rows]
+        rows, order = lemma_rows(self.root), []
+        listed = {}
+        for line in match[2].strip().split("\n"):
+            crate, modules, users = (re.findall(r"`(\w+)`", it) for it in line.strip("|").split(" | "))
+            new = self.map.crate(crate[0])
+            names = self.map.of[crate[0]].names["proofs"] if crate[0] in self.map.of else {}
+            both = listed.setdefault(new, (set(), set()))
+            both[0].update(renamed(names, it) for it in modules)
+            both[1].update(self.map.crate(it) for it in users)
+        lines = []
+        for name, (modules, users) in listed.items():
+            if name in self.map.parts:
+                modules, users = (some & real for some, real in zip((modules, users), rows.get(name, (set(), set()))))
+            if modules:
+                lines.append(row_of(name, (modules, users - {name})))
         return text[:match.start()] + match[1] + "".join(lines) + text[match.end():]
 
     def made(self):
@@ -707,8 +743,8 @@ class Merge:
             gone = self.map.gone() | set(self.map.parts)
             lines = [it for it in path.read_text().split("\n") if not it or it.split()[-1] not in gone]
             write(path, "\n".join(lines))
-        for crate in sorted((self.root / "crates").iterdir()):
-            run([str(self.root / "tools/rt"), "fmt"], crate)
+        with ThreadPoolExecutor(4) as pool:
+            list(pool.map(lambda it: run([str(self.root / "tools/rt"), "fmt"], it), sorted((self.root / "crates").iterdir())))
         if (self.root / "release/sbom").exists():
             out, status = run([str(self.root / "release/sbom")], self.root, check=False)
             if status:
@@ -828,6 +864,9 @@ class Merge:
         known = set(files)
         crates = {it.split("/")[1] for it in files if it.startswith("crates/")}
         told = set()
+        # definitions that a crate hands on: `pub use Rattle.CRATE.specs.A` in its list
+        handed = {(it.split("/")[1], name) for it in files if it.endswith("/specs/Lib.antt")
+                  for name in re.findall(r"(?m)^pub use Rattle\.[\w.]*\.(\w+)$", read(self.root / it))}
         for name in files:
             if not name.startswith("crates/"):
                 continue
@@ -836,6 +875,8 @@ class Merge:
                 if crate not in crates:
                     continue
                 segments = rest.split(".")[1:]
+                if kind == "specs" and (crate, segments[0]) in handed or kind == "proofs" and segments[0] == "Destruct":
+                    continue
                 if kind == "specs" and segments[0] in ("declared", "contracts"):
                     holds = any(f"crates/{crate}/src/{'/'.join(segments[1:i])}.rt" in known for i in range(2, len(segments) + 1))
                 elif kind == "specs":
@@ -867,6 +908,8 @@ class Merge:
             code = re.sub(r"(?m)^\s*ghost use .*$", "", code)
             for some in re.findall(r"(?m)^\s*(?:pub(?:\([a-z: ]+\))? )?use ([^;]+);", code):
                 for path, _ in paths_of(some):
+                    if path[0] == crate:
+                        self.refusals.add(f"{name}: {crate} names itself")
                     if path[0] in listed.crates and path[0] != crate:
                         named.add(path[0])
                         library = libraries.get(path[0])

@@ -7,7 +7,7 @@ signatures (names `w0` .. `w9`, `waiting_old`, `waiting_new`), and from each use
 signature the arguments at these places. Names that stay are printed by port_proofs.py."""
 import os, re, sys
 
-WAIT = re.compile(r"^(w\d|waiting_old|waiting_new)$")
+WAIT = re.compile(r"^(w\d?|waiting_old|waiting_new)$")
 BASE = {"PutsText": [1, 3], "PutsOut": [2, 4]}
 IDENT = r"[A-Za-z_«][\w'«»]*(?:-[A-Za-z_]\w*)*"
 
@@ -146,11 +146,23 @@ def scan(path, table):
                         names = explicit_names(text[start:end])
                     except ValueError:
                         names = []
+                # an abbreviation without names in its signature: those of its first equation
+                if not m.group(3) and not any(WAIT.match(x) for x in names):
+                    k = n + 1
+                    while k < len(lines) and not re.match(r"\s*" + re.escape(m.group(4)) + r" ", lines[k]) and k < n + 8:
+                        k += 1
+                    if k < len(lines) and re.match(r"\s*" + re.escape(m.group(4)) + r" ", lines[k]):
+                        at = sum(len(l) + 1 for l in lines[:k]) + lines[k].index(m.group(4)) + len(m.group(4))
+                        found = [text[a:b] for a, b in atoms_after(text, at)]
+                        found = [x for x in found if not x.startswith("{")]
+                        if any(WAIT.match(x) for x in found) and "→ List ℕ" in text[pos:at]:
+                            names = found
                 outer = [x for s in scopes for x in s[1]]
-                own = [i for i, x in enumerate(names) if WAIT.match(x)]
-                abroad = [i for i, x in enumerate(outer + names) if WAIT.match(x)]
+                is_wait = lambda x: bool(WAIT.match(x)) and (x != "w" or "h" in names)
+                own = [i for i, x in enumerate(names) if is_wait(x)]
+                abroad = [i for i, x in enumerate(outer + names) if is_wait(x)]
                 if own or abroad:
-                    table[m.group(4)] = (own, abroad, path)
+                    table.setdefault(m.group(4), []).append((own, abroad, path))
         pos += len(line) + 1
 
 
@@ -181,17 +193,22 @@ def port(path, table):
                 while text[a - 1] in " \n" and a > 0:
                     a -= 1
                 text = text[:a] + text[b:]
-    if text == old and not re.search(r"\b(w\d|waiting_old|waiting_new)\b[^\n]*\b(h\d|held_old|held_new)\b|\b(h\d|held_old|held_new)\b[^\n]*\b(w\d|waiting_old|waiting_new)\b", old):
+    if text == old and not re.search(r"\b(w\d?|waiting_old|waiting_new)\b[^\n]*\b(h\d?|held_old|held_new)\b|\b(h\d?|held_old|held_new)\b[^\n]*\b(w\d?|waiting_old|waiting_new)\b", old):
         return
+    lone = re.search(r"\(h : Option \(List ℕ\)\)", old)
+    W = r"w\d?" if lone else r"w\d"
     # binders, and what is left of the names
-    text = re.sub(r"(?<=[({ ])(?:w\d|waiting_old|waiting_new)\b(?=[ )}])", "", text)
-    text = re.sub(r"(?m)^(\s+)(?:w\d|waiting_old|waiting_new)(?= |$)", r"\1", text)
+    text = re.sub(r"(?<=[({ ])(?:" + W + r"|waiting_old|waiting_new)\b(?=[ )};\n])", "", text)
+    text = re.sub(r"(?m)^(\s+)(?:" + W + r"|waiting_old|waiting_new)(?= |$)", r"\1", text)
     text = re.sub(r"[ ]*\{\s*\}(?!\s*\})", lambda m: "" if "record" not in text[max(0, m.start() - 8):m.start()] else m.group(0), text)
     text = re.sub(r"\s*[({]\s*:\s*List ℕ[)}]", "", text)
     text = re.sub(r"([({])[ ]+(?=[\w])", lambda m: m.group(0) if m.group(1) == "{" else "(", text)
     text = re.sub(r"\{ +([a-z]\w*(?: [a-z]\w*)* : List)", r"{\1", text)
     text = re.sub(r"(?<=[^\s]) {2,}(?=\S)", " ", text)
     text = re.sub(r" +(?=\n)", "", text)
+    two = r"Option \(List ℕ\)(\s*)→ List ℕ"
+    text = re.sub(two + r"(?=(\s*→ ItemOrder)?\s*→ Option \(List ℕ\)\s*→ List ℕ)", r"Option (List ℕ)", text)
+    text = re.sub(r"(Option \(List ℕ\)(?:\s*→ ItemOrder)?\s*→ Option \(List ℕ\))\s*→ List ℕ(?=\s*→)", r"\1", text)
     text = re.sub(r"\bheld_(old|new)\b", r"given_\1", text) if "cli" not in path else text
     if text != old:
         open(path, "w").write(text)
@@ -220,17 +237,28 @@ if __name__ == "__main__":
 
     for c in crates:
         own = table_of(c)
-        for n, (o, a, p) in sorted(own.items()):
-            print("  ", n, o, a, os.path.relpath(p, base))
+        for n, found in sorted(own.items()):
+            for o, a, p in found:
+                print("  ", n, o, a, os.path.relpath(p, base))
         for f in crate_files(".", c):
             text = open(f).read()
-            table = {n: (o, a, p.replace(base, ".")) for n, (o, a, p) in own.items()}
+            # a name of this crate counts where it is this file's, or brought in from there
+            brought = {}
+            for m in re.finditer(r"^use Rattle\." + c + r"\.([\w.+\-]+)\.\{([^}]*)\}", text, flags=re.M):
+                for n in m.group(2).split(","):
+                    brought[n.strip().split(" as ")[0]] = f"./{c}/" + m.group(1).replace(".", "/") + ".antt"
+            table = {}
+            for n, found in own.items():
+                for o, a, p in found:
+                    home = p.replace(base, ".")
+                    if home == f or brought.get(n) == home:
+                        table[n] = (o, a, home)
             for m in re.finditer(r"^use Rattle\.(\w+)\.([\w.]+)\.\{([^}]*)\}", text, flags=re.M):
                 if m.group(1) in (c, "std") or not os.path.isdir(f"{base}/{m.group(1)}"):
                     continue
                 for n in m.group(3).split(","):
                     n = n.strip()
-                    if n in table_of(m.group(1)) and n not in BASE:
-                        o, a, p = table_of(m.group(1))[n]
-                        table[n] = (o, a, p)
+                    for o, a, p in table_of(m.group(1)).get(n, []):
+                        if n not in BASE and p.replace(base, ".") == f"./{m.group(1)}/" + m.group(2).replace(".", "/") + ".antt":
+                            table[n] = (o, a, p)
             port(f, table)

@@ -43,7 +43,7 @@ def refs(text):
 
 def chains(text):
     old = text
-    A = r"(\w+|[\w.\-]+\.ensures\.puts\.puts)"
+    A = r"([\w.\-]+\.ensures\.puts\.puts|\w+)"
     cut = lambda a: a[:-5] if a.endswith(".puts.puts") else a
     text = re.sub(r"let (\w+) = both(?: _){5,8} " + A + r"\s+" + A + r" in",
                   lambda m: f"let {m.group(1)} = then_next {cut(m.group(2))} {cut(m.group(3))} in", text)
@@ -52,6 +52,22 @@ def chains(text):
     if text != old and not re.search(r"\bboth\b", re.sub(r"let both = [^\n]*\n", "", text)):
         text = re.sub(r"[ \t]*let both = c\.texts_add_up\.ensures\.both in\n", "", text)
     return text
+
+
+def drop_law(root, fn):
+    """The call of the law goes where the answers do without it."""
+    parts = os.path.relpath(root, f"{crate}/proofs").split("/")
+    for k in range(1, len(parts)):
+        src = f"{crate}/src/" + "/".join(parts[:k]) + ".rt"
+        if os.path.exists(src):
+            text = open(src).read()
+            m = re.search(r"\bfn " + fn + r"\b[\s\S]*?\n( *)\}\n", text)
+            if m and "texts_add_up();" in m.group(0):
+                new = re.sub(r"[ \t]*texts_add_up\(\);\n", "", m.group(0))
+                text = text.replace(m.group(0), new)
+                if "texts_add_up();" not in text:
+                    text = re.sub(r"use pmb_io::laws::texts_add_up;\n", "", text)
+                open(src, "w").write(text)
 
 
 for root, _, files in os.walk(f"{crate}/proofs"):
@@ -83,5 +99,7 @@ for root, _, files in os.walk(f"{crate}/proofs"):
                     i = text.index("use Rattle." + crate) if "use Rattle." + crate in text else 0
                     text = text[:i] + line + text[i:]
             open(p, "w").write(text)
+        if f == "Answers.antt" and "then_last" in text and "texts_add_up" not in text:
+            drop_law(root, fn)
         if text != old or note:
             print(p + note)

@@ -27,8 +27,9 @@ def port(path):
     text = re.sub(told, lambda m: m.group(0) if m.group(2).endswith((".out", ".out.now")) else f"({m.group(1)} {place(m.group(2))}{m.group(3) or ''}.writer)", text)
     text = re.sub(r"([\w.\-]+?)\.waiting(\.now)?\.items",
                   lambda m: m.group(0) if m.group(1).endswith((".out", ".out.now", ".self", ".self.now")) else f"{place(m.group(1))}{m.group(2) or ''}.waiting.now.items", text)
-    text = re.sub(r"\bboth( _){8}(?= )", "both _ _ _ _ _", text)
-    text = re.sub(r"ensures\.both( _){8}(?= )", "ensures.both _ _ _ _ _", text)
+    # of the law's eight arguments three told what waited
+    text = re.sub(r"\b(add|both)((?: _){6,8})(?= )", lambda m: m.group(1) + m.group(2)[6:], text)
+    text = re.sub(r"(texts_add_up\.ensures\.nothing) _ _", r"\1 _", text)
     text = re.sub(r"writes_then( _){8}(?= )", "writes_then _ _ _ _ _", text)
     if text != old:
         words = set(re.findall(r"[A-Za-z_]\w*", re.sub(r"^use [^\n]*(\n[ ]+[^\n]*)*", "", text, flags=re.M)))
