@@ -252,7 +252,7 @@ class Types:
     def tokens(self, text, it, crate, meant, ghost_meant):
         """The bare names of a source: of Rust and, in contracts, of antt."""
         path = rf"(?:crate::{it.module.replace('/', '::')}|{it.crate}|{it.module.split('/')[-1]})"
-        out, ghost, depth, in_enum = [], False, 0, None
+        out, ghost, depth, in_enum, fenced = [], False, 0, None, False
         for line in text.split("\n"):
             code = re.sub(r"//.*", "", line)
             comment = line[len(code):]
@@ -280,7 +280,13 @@ class Types:
                 code = kept + code
             if re.match(rf"{indent}(?:pub(?:\([a-z]+\))? )?enum \w", code) and "{" in code and "}" not in code:
                 in_enum = indent
-            if meant or ghost_meant:
+            if re.match(r"//[/!] ```", comment.strip()):
+                fenced = not fenced
+            elif not comment:
+                fenced = False
+            if fenced and meant:
+                comment = re.sub(rf"(?<![\w:.'\"]){it.old}(?!\w)", it.new, comment)
+            elif meant or ghost_meant:
                 comment = re.sub(rf"(?<=[`(\[<:&])(?<!::){it.old}(?=[`)\]>:<])", it.new, comment)
                 comment = re.sub(rf"(?<=\()crate::{it.old}(?=[:)])", f"crate::{it.new}", comment)
             out.append(code + comment)
@@ -445,7 +451,8 @@ class Types:
             for i in range(len(parts), 0, -1):
                 path = self.root / f"crates/{match[1]}/src/{'/'.join(parts[:i])}.rt"
                 if path.exists():
-                    source, rest = read(path), parts[i:]
+                    some = [path, *sorted(path.with_suffix("").glob("**/*.rt"))]
+                    source, rest = "\n".join(read(it) for it in some), parts[i:]
                     break
             if source is None:
                 self.refusals.add(f"{name}: its module isn't there")
@@ -455,8 +462,6 @@ class Types:
                     names = [one or other for one, other in TYPE.findall(source)] + re.findall(r"\bfor (\w+)", source) + re.findall(r"(?m)^\s*impl(?:<[^{]*?>)? (\w+)", source)
                     if not any(part.startswith(it) for it in names):
                         self.refusals.add(f"{name}: src has no {part}")
-                elif not re.search(rf"\bfn {part}\b", source):
-                    self.refusals.note(f"{name}: src has no fn {part}")
 
 
 def main(words):
