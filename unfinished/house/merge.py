@@ -272,13 +272,18 @@ class Merge:
     def rust(self, text, home):
         """The paths of a source."""
 
+        modules = {}
+
         def mapped(path, alias):
             new = self.path(path, home)
             if not alias and new[-1] != path[-1]:
-                alias = path[-1]
+                # (a module that has another name now)
+                modules[path[-1]] = new[-1]
             return (new, None if alias == new[-1] else alias)
 
         text = rewrite_uses(text, mapped)
+        for old, new in modules.items():
+            text = re.sub(rf"(?<![\w:.]){old}(?=::{WORD})", new, text)
         # (paths in code and in links; `use` lines have the new names by now)
         names = "|".join(sorted([*self.map.of, *self.map.dropped], key=len, reverse=True))
         pattern = rf"(?<![\w:.#/`-])((?:{names}|crate)(?:::{WORD})+)"
