@@ -1,6 +1,7 @@
 """What merge.py and types.py share: the crates of a repository, `use` lines, names in texts."""
 import os
 import re
+import shutil
 import subprocess
 import sys
 from pathlib import Path
@@ -34,6 +35,18 @@ def run(words, folder, check=True):
     if check and done.returncode:
         sys.exit(f"{' '.join(words)}: status {done.returncode}\n{out}")
     return out, done.returncode
+
+
+def formatted(root, names):
+    """Lays out sources and proofs as the toolchain does."""
+    names = sorted(it for it in names if re.search(r"\.(rt|antt)$", it) and (root / it).exists())
+    rattle = shutil.which("rattle")
+    for i in range(0, len(names), 800):
+        if rattle:
+            run([rattle, "fmt", "--write", *names[i:i + 800]], root)
+    if not rattle:
+        for crate in sorted({it.split("/")[1] for it in names}):
+            run([str(root / "tools/rt"), "fmt"], root / "crates" / crate)
 
 
 def tracked(root):
@@ -314,3 +327,46 @@ def without_repeats(text, names):
         return "".join(link + item for link, item in kept).lstrip()
 
     return LIST.sub(once, text)
+
+
+# ---- checks of both
+
+NAMED = re.compile(r"\bRattle\.([a-z][a-z0-9_]*)\.(specs|proofs)((?:\.[A-Za-z_][A-Za-z0-9_]*)*)\.\{([^}]*)\}")
+
+
+def missing_names(root, names):
+    """Names that contracts, definitions and proofs take from a file of the repository that doesn't have them."""
+    texts, found = {}, []
+
+    def text_of(name):
+        if name not in texts:
+            texts[name] = read(root / name) if (root / name).is_file() else None
+        return texts[name]
+
+    for name in names:
+        if not re.match(r"crates/.*\.(rt|antt)$", name) or not (root / name).is_file():
+            continue
+        for crate, kind, rest, some in NAMED.findall(text_of(name) or ""):
+            if not (root / "crates" / crate).is_dir():
+                continue
+            parts = rest.split(".")[1:]
+            if kind == "specs" and parts[:1] == ["declared"] and len(parts) > 2:
+                folder, parts, suffix = "src", parts[1:], ".rt"
+            elif kind == "specs" and parts[:1] != ["contracts"] or kind == "proofs" and parts[0][0].isupper():
+                folder, suffix = kind, ".antt"
+            else:
+                continue
+            for i in range(len(parts), 0, -1):
+                at = f"crates/{crate}/{folder}/{'/'.join(parts[:i])}{suffix}"
+                if text_of(at) is not None:
+                    break
+            else:
+                continue
+            if folder == "src" and len(parts) > i and not re.search(rf"(?<!\w){parts[i]}(?!\w)", text_of(at)):
+                found.append(f"{name}: {at} has no {parts[i]}")
+            for one in some.split(","):
+                one = one.strip().split(" as ")[0]
+                if re.fullmatch(r"[A-Za-z_][\w'-]*", one) and not one.startswith(("The", "the_")) and not one.startswith(("Invariant", "make")) \
+                        and not re.search(rf"(?<![\w'-]){re.escape(one)}(?![\w'-])", text_of(at)):
+                    found.append(f"{name}: {at} has no {one}")
+    return found

@@ -12,13 +12,12 @@ import os
 import re
 import shutil
 import sys
-from concurrent.futures import ThreadPoolExecutor
 from pathlib import Path
 
 sys.dont_write_bytecode = True
 sys.path.insert(0, os.path.dirname(os.path.abspath(__file__)))
-from common import (COMMENT, Listed, Crate, Refusals, WORD, longest_chain, paths_of, read, rewrap, rewrite_uses,  # noqa: E402
-                    run, split_top, tracked, without_repeats, wrapped, write)
+from common import (COMMENT, WORD, Crate, Listed, Refusals, formatted, longest_chain, paths_of, read, rewrap,  # noqa: E402
+                    rewrite_uses, run, tracked, without_repeats, wrapped, write)
 
 FOLDERS = {"src": ".rt", "specs": ".antt", "proofs": ".antt", "wrong": ".edit"}
 # Files that speak of C, where a name may be that of a function or a struct of C.
@@ -119,7 +118,7 @@ class Merge:
         self.c_names = set()
         for header in root.glob("include/*.h"):
             self.c_names |= set(re.findall(r"\bpmb_\w+", re.sub(r"(?s)/\*.*?\*/", "", header.read_text(encoding="utf-8"))))
-        self.libraries, self.origins = {}, {}
+        self.libraries, self.origins, self.written = {}, {}, set()
         for name in self.listed.crates:
             path = root / "crates" / name / "src/lib.rt"
             if path.exists():
@@ -611,9 +610,11 @@ class Merge:
                 if suffix in (".md", ".rt", ".antt"):
                     text = rewrap(text, suffix, before)
                 write(path, text)
+                self.written.add(name)
         for name in self.library_files():
             path = self.root / name
             write(path, rewrap(self.say(read(path)), ".rt"))
+            self.written.add(name)
 
     def say(self, text):
         for old, new in self.map.said:
@@ -748,8 +749,7 @@ class Merge:
             gone = self.map.gone() | set(self.map.parts)
             lines = [it for it in path.read_text().split("\n") if not it or it.split()[-1] not in gone]
             write(path, "\n".join(lines))
-        with ThreadPoolExecutor(4) as pool:
-            list(pool.map(lambda it: run([str(self.root / "tools/rt"), "fmt"], it), sorted((self.root / "crates").iterdir())))
+        formatted(self.root, self.written)
         if (self.root / "release/sbom").exists():
             out, status = run([str(self.root / "release/sbom")], self.root, check=False)
             if status:

@@ -10,12 +10,11 @@ stands in two library crates, and says which do."""
 import os
 import re
 import sys
-from concurrent.futures import ThreadPoolExecutor
 from pathlib import Path
 
 sys.dont_write_bytecode = True
 sys.path.insert(0, os.path.dirname(os.path.abspath(__file__)))
-from common import Listed, Refusals, joined_uses, paths_of, read, rewrap, run, tracked, write  # noqa: E402
+from common import Listed, Refusals, Use, formatted, joined_uses, paths_of, read, rewrap, tracked, write  # noqa: E402
 from merge import Library  # noqa: E402
 
 # What is beside the libraries.
@@ -148,7 +147,6 @@ class Types:
                         others = True
                     some.append((path, alias))
             if changed:
-                from common import Use
                 out.append(text[at:match.start()])
                 out.append(Use(match[1], match[2], some).text())
                 at = match.end()
@@ -337,7 +335,7 @@ class Types:
                 if name.endswith(".rt"):
                     text = joined_uses(text)
                 write(self.root / name, rewrap(text, os.path.splitext(name)[1], texts[name]) if not name.endswith(".edit") else text)
-                changed.add(name.split("/")[1])
+                changed.add(name)
         for it in self.renames:
             folder = self.root / f"crates/{it.crate}/proofs/{it.module}"
             if folder.is_dir():
@@ -348,6 +346,9 @@ class Types:
                             self.refusals.add(f"{folder / other} is there already")
                         else:
                             one.rename(folder / other)
+                            front = f"crates/{it.crate}/proofs/{it.module}/"
+                            changed = {front + other + name[len(front + one.name):] if name.startswith(front + one.name + "/") else name
+                                       for name in changed}
         page = self.root / "docs/promises.md"
         if page.exists():
             before = read(page)
@@ -359,8 +360,7 @@ class Types:
                     text = old.sub(lambda _: other, text)
                 if text != before:
                     write(self.root / name, text if name.endswith(".txt") else rewrap(text, os.path.splitext(name)[1], before))
-        with ThreadPoolExecutor(4) as pool:
-            list(pool.map(lambda it: run([str(self.root / "tools/rt"), "fmt"], self.root / "crates" / it), sorted(changed)))
+        formatted(self.root, changed)
 
     def edit(self, name, text):
         """A wrong body: each of its texts as a part of its file."""
