@@ -362,7 +362,7 @@ def missing_names(root, names):
                     break
             else:
                 continue
-            if folder == "src" and len(parts) > i and not re.search(rf"(?<!\w){parts[i]}(?!\w)", text_of(at)):
+            if folder == "src" and len(parts) > i and parts[i] != "Inside" and not parts[i].startswith("The") and not re.search(rf"(?<!\w){parts[i]}(?!\w)", text_of(at)):
                 found.append(f"{name}: {at} has no {parts[i]}")
             for one in some.split(","):
                 one = one.strip().split(" as ")[0]

@@ -16,8 +16,8 @@ from pathlib import Path
 
 sys.dont_write_bytecode = True
 sys.path.insert(0, os.path.dirname(os.path.abspath(__file__)))
-from common import (COMMENT, WORD, Crate, Listed, Refusals, formatted, longest_chain, paths_of, read, rewrap,  # noqa: E402
-                    rewrite_uses, run, tracked, without_repeats, wrapped, write)
+from common import (COMMENT, WORD, Crate, Listed, Refusals, formatted, longest_chain, missing_names, paths_of,  # noqa: E402
+                    read, rewrap, rewrite_uses, run, tracked, without_repeats, wrapped, write)
 
 FOLDERS = {"src": ".rt", "specs": ".antt", "proofs": ".antt", "wrong": ".edit"}
 # Files that speak of C, where a name may be that of a function or a struct of C.
@@ -794,6 +794,8 @@ class Merge:
             for kind in ("specs", "proofs"):
                 self.check_lists(crate, kind, files)
         self.check_antt(files)
+        for what in missing_names(self.root, files):
+            add(what)
         self.check_uses(listed, files)
         for (old, name), users in exported_before.items():
             new = self.map.crate(old)

@@ -14,7 +14,7 @@ from pathlib import Path
 
 sys.dont_write_bytecode = True
 sys.path.insert(0, os.path.dirname(os.path.abspath(__file__)))
-from common import Listed, Refusals, Use, formatted, joined_uses, paths_of, read, rewrap, tracked, write  # noqa: E402
+from common import Listed, Refusals, Use, formatted, joined_uses, missing_names, paths_of, read, rewrap, tracked, write  # noqa: E402
 from merge import Library  # noqa: E402
 
 # What is beside the libraries.
@@ -413,6 +413,8 @@ class Types:
         for name, crates in sorted(found.items()):
             self.refusals.add(f"{name} is a type of {' and of '.join(sorted(crates))}")
         files = tracked(self.root)
+        for what in missing_names(self.root, files):
+            self.refusals.add(what)
         for it in self.renames:
             pattern = re.compile(rf"Rattle\.{it.crate}\.\w+\.(?:declared|contracts)\.{it.module.replace('/', '.')}\.{it.old}\b")
             use = re.compile(rf"(?<!\w)(?:{it.crate}|crate::{it.module.replace('/', '::')})::{it.old}(?!\w)")
