@@ -331,6 +331,26 @@ def without_repeats(text, names):
 
 # ---- checks of both
 
+def asked(root, refusals):
+    """What the repository's own short checks say; docs/proof.md gets the digests of its statements."""
+    page, tool = root / "docs/proof.md", root / "tools/statement"
+    if page.exists() and tool.exists():
+        out, status = run([str(tool), "--check"], root, check=False)
+        text = read(page)
+        for what, digest in re.findall(r"the text of the (\w+) is another one, of the digest ([0-9a-f]{64})", out):
+            text = re.sub(rf"(?m)^({what} +sha256 )[0-9a-f]{{64}}$", rf"\g<1>{digest}", text)
+        write(page, text)
+        if status:
+            out, status = run([str(tool), "--check"], root, check=False)
+        if status:
+            refusals.add("tools/statement --check: " + out.strip())
+    for words in ([".ci/counts", "--files"], [".ci/stands_on"], ["tools/commands", "--check"]):
+        if (root / words[0]).exists():
+            out, status = run([str(root / words[0]), *words[1:]], root, check=False)
+            if status:
+                refusals.add(" ".join(words) + ": " + out.strip())
+
+
 NAMED = re.compile(r"\bRattle\.([a-z][a-z0-9_]*)\.(specs|proofs)((?:\.[A-Za-z_][A-Za-z0-9_]*)*)\.\{([^}]*)\}")
 
 
@@ -366,7 +386,7 @@ def missing_names(root, names):
                 found.append(f"{name}: {at} has no {parts[i]}")
             for one in some.split(","):
                 one = one.strip().split(" as ")[0]
-                if re.fullmatch(r"[A-Za-z_][\w'-]*", one) and not one.startswith(("The", "the_")) and not one.startswith(("Invariant", "make")) \
+                if re.fullmatch(r"[A-Za-z_][\w'-]*", one) and one != "Inside" and not one.startswith(("The", "the_")) and not one.startswith(("Invariant", "make")) \
                         and not re.search(rf"(?<![\w'-]){re.escape(one)}(?![\w'-])", text_of(at)):
                     found.append(f"{name}: {at} has no {one}")
     return found

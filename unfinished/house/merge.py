@@ -16,7 +16,7 @@ from pathlib import Path
 
 sys.dont_write_bytecode = True
 sys.path.insert(0, os.path.dirname(os.path.abspath(__file__)))
-from common import (COMMENT, WORD, Crate, Listed, Refusals, formatted, longest_chain, missing_names, paths_of,  # noqa: E402
+from common import (COMMENT, WORD, Crate, Listed, Refusals, asked, formatted, longest_chain, missing_names, paths_of,  # noqa: E402
                     read, rewrap, rewrite_uses, run, tracked, without_repeats, wrapped, write)
 
 FOLDERS = {"src": ".rt", "specs": ".antt", "proofs": ".antt", "wrong": ".edit"}
@@ -1023,6 +1023,7 @@ def main(words):
     merge.rewrite()
     merge.made()
     merge.check(exported)
+    asked(root, merge.refusals)
     for what in merge.refusals.notes:
         print(f"merge: note: {what}")
     after = Listed((root / "crates.txt").read_text(encoding="utf-8"))

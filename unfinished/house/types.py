@@ -14,7 +14,7 @@ from pathlib import Path
 
 sys.dont_write_bytecode = True
 sys.path.insert(0, os.path.dirname(os.path.abspath(__file__)))
-from common import Listed, Refusals, Use, formatted, joined_uses, missing_names, paths_of, read, rewrap, tracked, write  # noqa: E402
+from common import Listed, Refusals, Use, asked, formatted, joined_uses, missing_names, paths_of, read, rewrap, tracked, write  # noqa: E402
 from merge import Library  # noqa: E402
 
 # What is beside the libraries.
@@ -476,6 +476,7 @@ def main(words):
     types.look()
     types.rewrite()
     types.check()
+    asked(root, types.refusals)
     for what in types.refusals.notes:
         print(f"types: note: {what}")
     types.refusals.end_if_any()
