@@ -250,6 +250,8 @@ class Types:
     def tokens(self, text, it, crate, meant, ghost_meant):
         """The bare names of a source: of Rust and, in contracts, of antt."""
         path = rf"(?:crate::{it.module.replace('/', '::')}|{it.crate}|{it.module.split('/')[-1]})"
+        if not meant and not ghost_meant and not re.search(rf"(?<![\w:.'])({path})::{it.old}(?!\w)", text):
+            return text
         out, ghost, depth, in_enum, fenced = [], False, 0, None, False
         for line in text.split("\n"):
             code = re.sub(r"//.*", "", line)
@@ -314,15 +316,17 @@ class Types:
         texts = {name: read(self.root / name) for name in self.files if re.match(r"crates/.*\.(rt|antt|edit)$", name)}
         self.texts_before = dict(texts)
         new = {}
+        # who hands a type on, under whatever path
+        givers = {it: {it.crate} | {crate for crate in self.libraries if self.libraries[crate].item(it.old) and
+                                    self.origin(crate, it.old) == (it.crate, it.module, it.old)} for it in self.renames}
         for name, text in texts.items():
             crate = name.split("/")[1]
-            before = text
             for it in self.renames:
-                if not re.search(rf"{it.old}", text):
+                if it.old not in text:
                     continue
-                if name.endswith(".rt"):
+                if name.endswith(".rt") and (crate == it.crate or any(giver in text for giver in givers[it])):
                     text = self.rust(text, it, crate, name)
-                elif name.endswith(".antt"):
+                elif name.endswith(".antt") and it.crate in text:
                     text = self.antt(text, it, name)
             new[name] = text
         # (wrong bodies mean what their file means)
