@@ -419,14 +419,18 @@ class Types:
         files = tracked(self.root)
         for what in missing_names(self.root, files):
             self.refusals.add(what)
-        for it in self.renames:
-            pattern = re.compile(rf"Rattle\.{it.crate}\.\w+\.(?:declared|contracts)\.{it.module.replace('/', '.')}\.{it.old}\b")
-            use = re.compile(rf"(?<!\w)(?:{it.crate}|crate::{it.module.replace('/', '::')})::{it.old}(?!\w)")
-            for name in files:
-                if re.match(r"crates/.*\.(rt|antt|edit)$", name) or name.endswith(".md"):
-                    text = read(self.root / name)
-                    if pattern.search(text) or (use.search(text) and (name.startswith(f"crates/{it.crate}/") or f"{it.crate}::{it.old}" in text)):
-                        self.refusals.add(f"{name}: it still names {it.old} of {it.crate}")
+        for name in files:
+            if not (re.match(r"crates/.*\.(rt|antt|edit)$", name) or name.endswith(".md")):
+                continue
+            text = read(self.root / name)
+            for it in self.renames:
+                if it.old not in text or (it.crate not in text and not name.startswith(f"crates/{it.crate}/")):
+                    continue
+                module = it.module.replace("/", ".")
+                if re.search(rf"Rattle\.{it.crate}\.\w+\.(?:declared|contracts)\.{module}\.{it.old}\b", text) or \
+                        re.search(rf"(?<!\w){it.crate}::{it.old}(?!\w)", text) or (name.startswith(f"crates/{it.crate}/") and
+                        re.search(rf"(?<!\w)crate::{module.replace('.', '::')}::{it.old}(?!\w)", text)):
+                    self.refusals.add(f"{name}: it still names {it.old} of {it.crate}")
         for path in sorted(self.root.glob("crates/*/wrong/*.edit")):
             texts, at, old = {}, None, ""
             for line in read(path).split("\n"):
@@ -448,17 +452,24 @@ class Types:
 
     def proofs(self, files):
         """Each folder of proofs under a module bears the name of a function or of a type that the module has."""
+        known = set(files)
+        sources, seen = {}, set()
         for name in files:
             match = re.match(r"crates/([a-z0-9_]+)/proofs/([a-z].*)/(?:Answers|Invariants|Proof)\.antt$", name)
             if not match:
                 continue
+            if (match[1], match[2]) in seen:
+                continue
+            seen.add((match[1], match[2]))
             parts = match[2].split("/")
             source = None
             for i in range(len(parts), 0, -1):
-                path = self.root / f"crates/{match[1]}/src/{'/'.join(parts[:i])}.rt"
-                if path.exists():
-                    some = [path, *sorted(path.with_suffix("").glob("**/*.rt"))]
-                    source, rest = "\n".join(read(it) for it in some), parts[i:]
+                one = f"crates/{match[1]}/src/{'/'.join(parts[:i])}"
+                if one + ".rt" in known:
+                    if one not in sources:
+                        some = [it for it in files if it == one + ".rt" or it.startswith(one + "/")]
+                        sources[one] = "\n".join(read(self.root / it) for it in some)
+                    source, rest = sources[one], parts[i:]
                     break
             if source is None:
                 self.refusals.add(f"{name}: its module isn't there")
