@@ -1,7 +1,5 @@
 // ---- the page: what is open, and its views
 
-const VIEWS = [['bus', 'Bus'], ['sums', 'Sums'], ['profile', 'Profile'], ['try', 'Try']];
-
 class Page {
     constructor() {
         this.recording = null;
@@ -28,69 +26,20 @@ class Page {
                 onchange: () => { this.open([...this.files.files]); this.files.value = ''; },
             },
         );
-        this.tabs = VIEWS.map(([name, text]) => make(
-            'button',
-            {
-                type: 'button', role: 'tab', id: `tab-${name}`, 'aria-controls': `view-${name}`,
-                'aria-selected': 'false', text, onclick: () => this.show(name),
-            },
-        ));
-        const tablist = make('div', { class: 'tabs', role: 'tablist', 'aria-label': 'Views' }, ...this.tabs);
-        tablist.addEventListener('keydown', (event) => {
-            const by = { ArrowRight: 1, ArrowLeft: -1 }[event.key];
-            if (!by) return;
-            const next = this.tabs[(this.tabs.indexOf(document.activeElement) + by + this.tabs.length) % this.tabs.length];
-            next.focus();
-            next.click();
+        this.header = new Header({
+            open: () => this.files.click(), show: (view) => this.show(view), how: () => this.toggleHow(),
+            stop: () => this.stop(), help: () => this.help.showModal(),
         });
-        this.recordingChip = button(
-            '',
-            {
-                class: 'chip-button', title: 'How the recording is read', 'aria-expanded': 'false',
-                'aria-controls': 'how', hidden: true, onclick: () => this.toggleHow(),
-            },
-        );
-        this.profileChip = button(
-            '',
-            {
-                class: 'chip-button',
-                title: 'The profile that it is read with', hidden: true, onclick: () => this.show('profile'),
-            },
-            'device',
-        );
-        this.recordingName = make('span');
-        this.recordingChip.append(this.recordingName, sign('down'));
-        this.profileName = make('span');
-        this.profileChip.append(this.profileName);
-        this.status = make('span', { class: 'status', role: 'status' });
-        this.cancel = button('Cancel', { class: 'small', hidden: true, onclick: () => this.stop() });
-        this.bar = make(
-            'div',
-            { class: 'progress', role: 'progressbar', 'aria-label': 'Reading', hidden: true }, make('i'),
-        );
-        const header = make('header', {},
-            make('h1', {}, logo(), make('span', { text: 'pmb' })),
-            button(
-                'Open',
-                { class: 'main', title: 'Open a recording or a profile (O)', onclick: () => this.files.click() },
-                'open',
-            ),
-            tablist, this.recordingChip, this.profileChip, make('span', { class: 'gap' }), this.status, this.cancel,
-            button(
-                '',
-                {
-                    class: 'round', title: 'Help and keys (?)', 'aria-label': 'Help and keys',
-                    onclick: () => this.help.showModal(),
-                },
-                'help',
-            ), this.bar);
-        this.how = make(
-            'div',
-            { class: 'how', id: 'how', hidden: true, role: 'dialog', 'aria-label': 'How the recording is read' },
-        );
+        this.cancel = this.header.cancel;
+        this.how = new How(() => this.read());
         this.alarm = make('div', { class: 'alarm', role: 'alert', hidden: true });
-        this.views = Object.fromEntries(VIEWS.map(([name]) => [name, make('div', { class: `view ${name}`, id: `view-${name}`, role: 'tabpanel', 'aria-labelledby': `tab-${name}`, hidden: true })]));
-        this.tiles = make('div', { class: 'tiles', role: 'group', 'aria-label': 'Counts' });
+        this.views = Object.fromEntries(VIEWS.map(([name]) => [name, make('div', {
+            class: `view ${name}`, id: `view-${name}`, role: 'tabpanel', 'aria-labelledby': `tab-${name}`,
+            hidden: true,
+        })]));
+        this.tiles = new Tiles({
+            filter: (kind) => this.table.choose_kind(kind), how: () => this.toggleHow(true),
+        });
         const timeline = make('section', { class: 'panel timeline', 'aria-label': 'Timeline' });
         const table = make('section', { class: 'panel packets', 'aria-label': 'Packets' });
         const looks = make('section', { class: 'panel needs', 'aria-label': 'What needs a look' });
@@ -104,8 +53,11 @@ class Page {
         );
         this.left = make('div', { class: 'left' }, timeline, this.splitter, table);
         this.bus = make('div', { class: 'bus-grid' }, this.left, make('div', { class: 'side' }, looks, packet));
-        this.welcome = this.welcomePage();
-        this.views.bus.append(this.welcome, this.tiles, this.bus);
+        this.welcome = welcomePage({
+            choose: () => this.files.click(), pasted: (text) => this.pasted(text),
+            example: (name) => this.example(name), recording: (name) => this.exampleRecording(name),
+        });
+        this.views.bus.append(this.welcome, this.tiles.element, this.bus);
         this.timeline = new Timeline(
             timeline,
             { choose: (row) => this.choose(row, 'timeline'), moved: () => this.table?.viewMoved() },
@@ -120,163 +72,27 @@ class Page {
         this.packet = new Packet(packet, { step: (by) => this.step(by) });
         this.sums = new Sums(this.views.sums, { choose: (row) => { this.show('bus'); this.choose(row, 'sums'); } });
         this.profileView = new ProfileView(this.views.profile, {
-            read: (profile) => this.readWith(profile), current: () => this.profile, addresses: () => this.fromAddresses(), open: () => this.files.click(),
+            read: (profile) => this.readWith(profile), current: () => this.profile,
+            addresses: () => this.fromAddresses(), open: () => this.files.click(),
         });
         this.try = new Try(this.views.try, { profile: () => this.profile });
-        this.help = this.helpDialog();
+        this.help = helpDialog();
         this.drop = make(
             'div',
             { class: 'drop', hidden: true, 'aria-hidden': 'true' },
             make('p', { text: 'Drop a recording, a profile, or both' }),
         );
         document.body.append(
-            header, this.how, this.alarm, make('main', {}, ...Object.values(this.views)), this.help, this.drop, this.files,
+            this.header.element, this.how.element, this.alarm, make('main', {}, ...Object.values(this.views)),
+            this.help, this.drop, this.files,
         );
-        this.splits();
-    }
-
-    welcomePage() {
-        const example = (text, note, start) => make(
-            'button',
-            { type: 'button', class: 'example', onclick: start }, make('b', { text }), make('span', { text: note }),
-        );
-        const paste = make(
-            'textarea',
-            {
-                class: 'code', rows: '3',
-                placeholder: 'S b0 A 88 A S b1 A 00 A d3 N P',
-                'aria-label': 'Paste a recording or a capture', spellcheck: 'false',
-            },
-        );
-        const sources = make('p', { class: 'sources' });
-        sources.append('sigrok and PulseView · Saleae Logic 2 · Total Phase Data Center · Linux trace, trace-cmd and perf · capture text');
-        return make('div', { class: 'welcome' },
-            make('div', { class: 'welcome-main' },
-                make('h2', { text: 'Drop a recording, see the bus' }),
-                make(
-                    'p',
-                    {
-                        class: 'lead',
-                        text: 'Where did the voltage dip, when did the fault come, which device does not answer: PMBus traffic as a timeline, as values, and packet by packet.',
-                    },
-                ),
-                make('div', { class: 'dropzone' }, sign('open'),
-                    make(
-                        'p', {}, make('b', { text: 'Drop files here' }), make('span', { text: ' or ' }),
-                        button('choose them', { class: 'main', onclick: () => this.files.click() }),
-                    ), sources),
-                make(
-                    'div', { class: 'paste' }, paste,
-                    button('Read this', { onclick: () => this.pasted(paste.value) }),
-                )),
-            make('div', { class: 'welcome-side' },
-                make('h3', { text: 'Examples' }),
-                example(
-                    '45 seconds on a bench',
-                    'Two converters and a supply: a short, a fault, heat, a damaged packet',
-                    () => this.example('bench'),
-                ),
-                example(
-                    'A power-up',
-                    'Limits are set, both outputs measured, one is shorted', () => this.example('power_up'),
-                ),
-                example(
-                    'An undervoltage',
-                    'A second in which one output is too low', () => this.example('undervoltage'),
-                ),
-                example('sigrok', 'What sigrok-cli wrote of wave forms', () => this.exampleRecording('sigrok.txt')),
-                example(
-                    'Linux',
-                    'A trace of i2cget, i2cset and i2ctransfer',
-                    () => this.exampleRecording('kernel_i2c_tools.txt'),
-                ),
-                make(
-                    'p', { class: 'promise' },
-                    make('b', { text: 'It stays on this machine.' }),
-                    make(
-                        'span',
-                        { text: ' The page is one file, and its policy lets it load and send nothing. The program that reads the recording is pmb itself, proved and compiled for browsers.' },
-                    ),
-                )));
-    }
-
-    helpDialog() {
-        const keys = [
-            ['O', 'open files'], ['1 2 3 4', 'the views'], ['/', 'filter the table by text'], ['. ,', 'the next packet, the one before'], [
-                '] [', 'the next problem, the one before',
-            ],
-            ['T', 'to the timeline'], ['G', 'to the table'], ['N', 'to what needs a look'], [
-                '← →',
-                'in the timeline: move; with Shift by half of it',
-            ], ['+ − 0', 'in the timeline: zoom, show all'], ['↑ ↓ Page Home End', 'in the table: from row to row'],
-            ['Esc', 'clear the marked part, close this'],
-        ];
-        const list = make('dl', { class: 'keys' });
-        for (const [key, what] of keys) list.append(
-            make('dt', {}, ...key.split(' ').map((it) => make('kbd', { text: it }))), make('dd', { text: what }),
-        );
-        const dialog = make('dialog', { class: 'help', 'aria-label': 'Help' },
-            make(
-                'div', { class: 'panel-head' },
-                make('h2', { text: 'Keys and pointer' }), make('span', { class: 'gap' }),
-                button('', { 'aria-label': 'Close', onclick: () => dialog.close() }, 'close'),
-            ),
-            list,
-            make(
-                'p',
-                { text: 'Wheel: zoom at the pointer; with Shift: move. Drag: move; with Shift, or in the ruler: mark a part, and read its length, its packets, and what each value was in it. Double click: zoom in. Drag in the overview: choose what is shown. On a touch screen: one finger moves, two zoom.' },
-            ),
-            make(
-                'p',
-                { text: 'A status bit is solid up to the last read that showed it, and pale up to the read that no longer did. A hollow dot is a voltage that rests on an assumed VOUT_MODE. The width of a packet is an estimate: its START is known, its STOP is not.' },
-            ),
-            make(
-                'p', {},
-                make('span', { text: 'Everything is read by the program pmb inside this page, as its commands ' }),
-                make('code', { text: 'import, json, log, stats, run, encode, decode, build' }),
-                make('span', { text: ' do. Nothing is loaded or sent.' }),
-            ));
-        dialog.addEventListener('click', (event) => { if (event.target === dialog) dialog.close(); });
-        return dialog;
-    }
-
-    // Lets the pointer and the arrow keys move the line between timeline and table.
-    splits() {
-        const set = (share) => {
-            this.share = Math.max(15, Math.min(85, share));
-            this.left.style.setProperty('--split', `${this.share}fr`);
-            this.left.style.setProperty('--rest', `${100 - this.share}fr`);
-            this.splitter.setAttribute('aria-valuenow', Math.round(this.share));
-        };
-        set(64);
-        this.splitter.addEventListener('pointerdown', (event) => {
-            this.splitter.setPointerCapture(event.pointerId);
-            const move = (it) => {
-                const box = this.left.getBoundingClientRect();
-                set(((it.clientY - box.top) / box.height) * 100);
-            };
-            this.splitter.addEventListener('pointermove', move);
-            this.splitter.addEventListener(
-                'pointerup',
-                () => this.splitter.removeEventListener('pointermove', move), { once: true },
-            );
-        });
-        this.splitter.addEventListener('keydown', (event) => {
-            const by = { ArrowUp: -4, ArrowDown: 4 }[event.key];
-            if (by) {
-                set(this.share + by);
-                event.preventDefault();
-            }
-        });
+        splits(this.left, this.splitter);
     }
 
     show(view) {
         this.view = view;
-        VIEWS.forEach(([name], i) => {
-            this.views[name].hidden = name !== view;
-            this.tabs[i].setAttribute('aria-selected', name === view);
-            this.tabs[i].tabIndex = name === view ? 0 : -1;
-        });
+        this.header.select(view);
+        for (const [name, element] of Object.entries(this.views)) element.hidden = name !== view;
         if (view === 'try') this.try.show();
         if (view === 'profile' && !this.profileView.text.value) this.profileView.show(this.profile ?? {
             text: DATA.sample, name: 'sample.toml', origin: 'sample',
@@ -309,9 +125,9 @@ class Page {
         document.addEventListener('keydown', (event) => this.key(event));
         document.addEventListener('pointerdown', (event) => {
             if (
-                !this.how.hidden &&
-                !this.how.contains(event.target) &&
-                !this.recordingChip.contains(event.target)
+                !this.how.element.hidden &&
+                !this.how.element.contains(event.target) &&
+                !this.header.recording.contains(event.target)
             ) this.toggleHow(false);
         });
         window.addEventListener('error', (event) => {
@@ -327,9 +143,9 @@ class Page {
     }
 
     key(event) {
-        if (event.key === 'Escape' && !this.how.hidden) {
+        if (event.key === 'Escape' && !this.how.element.hidden) {
             this.toggleHow(false);
-            this.recordingChip.focus();
+            this.header.recording.focus();
             return;
         }
         if (event.ctrlKey || event.metaKey || event.altKey || event.target.closest('input, textarea, select, dialog')) return;
@@ -338,8 +154,16 @@ class Page {
             element?.focus();
         };
         const keys = {
-            o: () => this.files.click(), '/': () => to(this.table.text), '?': () => this.help.showModal(), t: () => to(this.timeline.scroller), g: () => to(this.table.scroller),
-            n: () => to(this.looks.list.querySelector('button')), '.': () => this.step(1), ',': () => this.step(-1), ']': () => this.stepProblem(1), '[': () => this.stepProblem(-1),
+            o: () => this.files.click(),
+            '/': () => to(this.table.text),
+            '?': () => this.help.showModal(),
+            t: () => to(this.timeline.scroller),
+            g: () => to(this.table.scroller),
+            n: () => to(this.looks.list.querySelector('button')),
+            '.': () => this.step(1),
+            ',': () => this.step(-1),
+            ']': () => this.stepProblem(1),
+            '[': () => this.stepProblem(-1),
         };
         VIEWS.forEach(([name], i) => { keys[i + 1] = () => this.show(name); });
         const call = keys[event.key] ?? keys[event.key.toLowerCase()];
@@ -354,34 +178,22 @@ class Page {
     fresh() {
         const none = this.recording === null;
         this.welcome.hidden = !none;
-        this.tiles.hidden = none;
+        this.tiles.element.hidden = none;
         this.bus.hidden = none;
-        this.recordingChip.hidden = none;
+        this.header.recording.hidden = none;
         document.body.classList.toggle('empty', none);
     }
 
     // Files that were dropped or chosen: profiles and recordings, in any order.
     async open(files) {
         this.toggleHow(false);
-        let recording = null;
-        let profile = null;
-        const others = [];
-        for (const file of files) {
-            const head = await headOf(file);
-            if (!split(head) && (/\.toml$/i.test(file.name) || (isProfile(head) && sourceOf(head) === 'capture' && !/^\s*S [0-9a-f]{2} /m.test(head)))) {
-                profile = { text: await file.text(), name: file.name, origin: 'file' };
-            } else if (recording === null) {
-                recording = { blob: file, name: file.name };
-            } else {
-                others.push(file.name);
-            }
-        }
+        const { profile, recording, others } = await sortFiles(files);
         if (profile) {
             this.profile = profile;
             this.profileView.show(profile);
         }
         if (recording) {
-            await this.openRecording(recording.blob, recording.name, profile);
+            await this.openRecording(recording, recording.name, profile);
             if (others.length > 0) {
                 this.note('One recording at a time.', `${recording.name} is shown, and not ${others.join(', ')}`);
             }
@@ -402,7 +214,7 @@ class Page {
             const choice = make('select', {
                 'aria-label': 'Recording', onchange: () => openOne(recordings[choice.value]),
             }, ...recordings.map(({ name }, i) => make('option', { value: i, text: name })));
-            this.recordingChip.before(choice);
+            this.header.recording.before(choice);
         }
         return openOne(recordings[0]);
     }
@@ -424,15 +236,12 @@ class Page {
                 this.profileView.show(this.profile);
             }
             rest = blob.slice(parts.rest);
-        } else if (!profile && (this.profile?.origin === 'capture' || this.profile?.origin === 'example' || this.profile?.origin === 'addresses')) {
+        } else if (!profile && ['capture', 'example', 'addresses'].includes(this.profile?.origin)) {
             // (a profile that belonged to another recording goes with it)
             this.profile = null;
         }
-        const source = parts ? 'capture' : sourceOf(head);
-        this.recording = {
-            blob: rest, name, source, found: source, bus: '',
-            rate: source === 'sigrok' ? rateOf(head) : '', unshifted: false, ...more
-        };
+        const found = parts ? 'capture' : sourceOf(head);
+        this.recording = new Recording(rest, name, found, head, more);
         this.read();
     }
 
@@ -501,7 +310,7 @@ class Page {
         this.looksHead.textContent = '';
         this.grownLast = 0;
         this.fresh();
-        this.told();
+        this.header.names(this.recording, this.profile);
         this.progressed();
         this.fillHow();
         const current = () => turn === this.generation && !reading.closed;
@@ -514,7 +323,7 @@ class Page {
                 this.profile = { text: profileOf(addresses), name: 'addresses.toml', origin: 'addresses' };
                 this.profileView.show(this.profile);
             }
-            this.told();
+            this.header.names(this.recording, this.profile);
             await this.readCapture(reading, capture, current);
         } catch (mistake) {
             if (current()) this.fail(mistake.message);
@@ -531,7 +340,7 @@ class Page {
             return blob;
         }
         this.phase = 'importing';
-        const { status, error } = await reading.run('capture', this.importWords(), [blob]);
+        const { status, error } = await reading.run('capture', this.recording.words, [blob]);
         if (status > 1) {
             this.fail(error.trim());
             this.finish();
@@ -540,15 +349,6 @@ class Page {
         this.phase = 'reading';
         reading.progress = { used: 0, size: 1 };
         return (await reading.ask('capture')).blob;
-    }
-
-    importWords() {
-        const { source, bus, rate, unshifted } = this.recording;
-        return [
-            'import', source, ...(bus ? ['--bus', bus] : []),
-            ...(source === 'sigrok' && rate ? ['--rate', rate] : []),
-            ...(source === 'sigrok' && unshifted ? ['--unshifted'] : [])
-        ];
     }
 
     get readWords() {
@@ -586,8 +386,7 @@ class Page {
     finish() {
         for (const worker of this.reading.runs.values()) worker.terminate();
         this.reading.cancel?.abort();
-        this.bar.hidden = true;
-        this.cancel.hidden = true;
+        this.header.done();
         this.looks.show(this.reading);
         this.tell();
         this.whole = true;
@@ -606,9 +405,8 @@ class Page {
         for (const worker of reading.runs.values()) worker.terminate();
         this.generation++;
         this.cancelled = true;
-        this.bar.hidden = true;
-        this.cancel.hidden = true;
-        this.status.textContent = `cancelled after ${counted(reading.count, 'row')}`;
+        this.header.done();
+        this.header.say(`cancelled after ${counted(reading.count, 'row')}`);
     }
 
     refuse(error) {
@@ -616,7 +414,7 @@ class Page {
         this.show('profile');
         this.profileView.refuse(error);
         this.finish();
-        this.status.textContent = 'The profile has a mistake.';
+        this.header.say('The profile has a mistake.');
     }
 
     fail(message) {
@@ -659,164 +457,31 @@ class Page {
     progressed() {
         const { used, size } = this.reading.progress;
         const share = size > 0 ? used / size : 0;
-        this.bar.hidden = false;
-        this.cancel.hidden = false;
-        this.bar.firstChild.style.width = `${(100 * share).toFixed(1)}%`;
-        this.bar.setAttribute('aria-valuenow', Math.round(share * 100));
-        this.status.textContent = `${this.phase} ${Math.round(share * 100)} %${this.reading.count > 0 ? ` · ${counted(this.reading.count, 'row')}` : ''}`;
+        const rows = this.reading.count > 0 ? ` · ${counted(this.reading.count, 'row')}` : '';
+        this.header.progress(share, `${this.phase} ${Math.round(share * 100)} %${rows}`);
     }
 
-    // The names of what is open.
-    told() {
-        const { recording, profile } = this;
-        this.recordingChip.hidden = recording === null;
-        if (recording) this.recordingName.textContent = `${recording.name} · ${SOURCES[recording.source]}`;
-        this.profileChip.hidden = profile === null;
-        this.profileName.textContent = profile ? profile.name : '';
-        document.title = recording ? `${recording.name} · pmb` : 'pmb: what happened on the bus';
-    }
-
-    // The counts on top.
+    // The counts on top, and how long it took.
     tell() {
-        const { reading } = this;
-        const { summary } = reading;
-        const { kinds } = reading;
-        const packets = summary.end ? summary.end.packets : reading.packets;
-        const bits = bitsOf(reading);
-        const faults = faultsOf(bits);
-        const against = kinds[6] + kinds[7];
-        const devices = [...reading.lanes.keys()].filter((it) => it !== NO_DEVICE).length;
-        const [from, to] = reading.span;
-        const length = reading.hasTimes && reading.count > 0 ? to - from : null;
-        const tile = (value, text, kind, title, act) => make(
-            act ? 'button' : 'div',
-            { class: `tile ${kind}`, title, ...(act ? { type: 'button', onclick: act } : {}) },
-            make('b', { text: value }), make('span', { text }),
-        );
-        const filter = (kind) => () => this.table.choose_kind(kind);
-        const list = [
-            tile(grouped(packets), packets === 1 ? 'packet' : 'packets', '', 'Whole packets'),
-            tile(String(devices), devices === 1 ? 'device' : 'devices', '', 'Addresses that packets went to'),
-            length !== null ? tile(lengthText(length), 'recorded', '', 'From the first packet to the last')
-                : tile(
-                    '–',
-                    reading.backwards >= 0 ? 'times go backwards: shown in their order' : 'no times: shown in their order',
-                    'muted',
-                    this.recording.source === 'sigrok' ? 'Give the sample rate to have times' : '',
-                    this.recording.source === 'sigrok' ? () => this.toggleHow(true) : null,
-                ),
-            tile(
-                grouped(kinds[3]), 'NACKed', kinds[3] ? 'warn' : 'zero',
-                'Packets in which a device did not acknowledge. Show them', filter('refused'),
-            ),
-            tile(
-                grouped(against),
-                against === 1 ? 'protocol error' : 'protocol errors', against ? 'bad' : 'zero',
-                'Events that no packet allows there, and words that are no token. Show them', filter('refusal'),
-            ),
-            tile(
-                grouped(faults), faults === 1 ? 'fault' : 'faults', faults ? 'bad' : 'zero',
-                'Status bits that were read set and are faults. Show these reads', filter('fault'),
-            ),
-        ];
-        const key = list.map((it) => it.textContent + it.className).join();
-        if (key !== this.tileKey) {
-            this.tileKey = key;
-            const at = [...this.tiles.children].indexOf(document.activeElement);
-            this.tiles.replaceChildren(...list);
-            if (at >= 0) this.tiles.children[at]?.focus();
-        }
-        if (this.bar.hidden && this.seconds !== null) {
-            this.status.textContent = `${sizeText(this.recording.blob.size)} in ${this.seconds < 0.1 ? '< 0.1' : this.seconds.toFixed(this.seconds < 10 ? 2 : 1)} s`;
-        }
+        this.tiles.show(this.reading, this.recording.source);
+        if (!this.header.isDone || this.seconds === null) return;
+        const { seconds } = this;
+        const text = seconds < 0.1 ? '< 0.1' : seconds.toFixed(seconds < 10 ? 2 : 1);
+        this.header.say(`${sizeText(this.recording.blob.size)} in ${text} s`);
     }
 
-    // ---- how it is read
-
-    toggleHow(open = this.how.hidden) {
-        this.how.hidden = !open;
-        this.recordingChip.setAttribute('aria-expanded', open);
+    // Opens or closes what says how the recording is read.
+    toggleHow(open = this.how.element.hidden) {
+        this.how.element.hidden = !open;
+        this.header.recording.setAttribute('aria-expanded', open);
         if (open) {
             this.fillHow();
-            this.how.querySelector('select, input')?.focus();
+            this.how.focus();
         }
     }
 
     fillHow() {
-        if (!this.recording) return;
-        const { recording } = this;
-        const again = (change) => (event) => {
-            change(event.target);
-            this.read();
-        };
-        const source = make('select', { onchange: again((it) => { recording.source = it.value; }) },
-            ...Object.entries(SOURCES).map(([name, text]) => make(
-                'option',
-                {
-                    value: name,
-                    text: `${text}${name === recording.found ? ' (found)' : ''}`, selected: name === recording.source,
-                },
-            )));
-        const field = (text, element, note) => make(
-            'label', { class: 'field-row' }, make('span', { text }), element,
-            note ? make('small', { text: note }) : null,
-        );
-        const check = (text, checked, change, note) => make(
-            'label', { class: 'check-row' },
-            make('input', { type: 'checkbox', checked, onchange: again((it) => change(it.checked)) }),
-            make('span', { text }),
-            note ? make('small', { text: note }) : null,
-        );
-        const rows = [field('source', source)];
-        if (recording.source !== 'capture' && recording.source !== 'beagle') {
-            rows.push(field(
-                'bus',
-                make(
-                    'input',
-                    {
-                        type: 'text', value: recording.bus, placeholder: 'the first one', spellcheck: 'false',
-                        onchange: again((it) => { recording.bus = it.value.trim(); }),
-                    },
-                ),
-                'as the recording names it: i2c-0',
-            ));
-        }
-        if (recording.source === 'sigrok') {
-            rows.push(field(
-                'samples a second',
-                make(
-                    'input',
-                    {
-                        type: 'text', inputmode: 'numeric', value: recording.rate, placeholder: 'for times',
-                        onchange: again((it) => { recording.rate = it.value.trim(); }),
-                    },
-                ),
-                'such as 24000000',
-            ));
-            rows.push(check(
-                'the address is the whole byte', recording.unshifted, (it) => { recording.unshifted = it; },
-                '--unshifted',
-            ));
-        }
-        rows.push(check(
-            'it begins in the middle', this.flags.late, (it) => { this.flags.late = it; },
-            '--late: PAGE and VOUT_MODE are unknown until they are seen',
-        ));
-        rows.push(check(
-            'go on after a word that is no token', this.flags.keepGoing, (it) => { this.flags.keepGoing = it; },
-            '--keep-going',
-        ));
-        const words = this.readWords.map((it) => ` ${it}`).join('');
-        const read = recording.source === 'capture' ? `cat ${quote(recording.name)}` : `pmb ${this.importWords().join(' ')} < ${quote(recording.name)}`;
-        rows.push(make(
-            'p', { class: 'command-line' },
-            make('small', { text: 'the same in a shell' }),
-            make(
-                'code',
-                { text: `(cat ${quote(this.profile?.name ?? 'profile.toml')}; echo; echo %%; ${read}) | pmb log${words}` },
-            ),
-        ));
-        this.how.replaceChildren(...rows);
+        if (this.recording) this.how.fill(this.recording, this.profile, this.flags, this.readWords);
     }
 
     // ---- from packet to packet
@@ -863,21 +528,6 @@ class Page {
         const at = (i) => reading.place(i);
         return { from: lowerBound(reading.count, at, timeline.from), to: lowerBound(reading.count, at, timeline.to) };
     }
-}
-
-// The first bytes of a file, as characters of a byte each.
-async function headOf(blob) {
-    return new TextDecoder('latin1').decode(await blob.slice(0, 1 << 18).arrayBuffer());
-}
-
-const quote = (name) => (/^[\w.+-]+$/.test(name) ? name : `'${name.replace(/'/g, "'\\''")}'`);
-
-function logo() {
-    return drawn(
-        'svg',
-        { viewBox: '0 0 22 16', class: 'logo', 'aria-hidden': 'true' },
-        drawn('path', { d: 'M1 11.5h3.5v-7h4.5v7h4.5v-7h3.5v7H21' }),
-    );
 }
 
 // (for trials)
