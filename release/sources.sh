@@ -103,65 +103,133 @@ digest() (
     echo "$found"
 )
 
-# A line for each file that counts in a look, by what the system notes of it: when it changed last,
-# which no program can set, and its number, which no copy shares. Paths that are given come first.
-#   list_files [PATH]
-list_files() {
-    CDPATH='' cd "$root/" && LC_ALL=C find -L "$@" crates.txt crates release \
-        -type d \( -name out -o -name must-fail \) ! -path '*/*/*/*' -prune \
-        -o -type f -printf '%C@ %T@ %i %s %p\n' 2>/dev/null
-}
+# A look takes longer than all else in a start, so the last one is kept in the folder release/out/look,
+# in two halves that are compared at once. Each has a file of paths, with a NUL after each, and one of
+# notes. The notes begin with what the look found: the digest of the sources, when it began, whether
+# the released program starts (yes or no), and the machine. A line for each path follows, by what the
+# system notes of it: when it changed last, which no program can set, when it was written, its number,
+# which no copy shares, and its size.
+#
+# A look counts while the notes of both halves are the same, to the letter. So there is a new look after
+# an edit, after a file came, went or was replaced, and in each copy of the folder, whatever made it,
+# also where times and sizes are as before. A folder changes when something comes or goes in it, so no
+# folder is read. Where `stat` can't note all that (BusyBox), each look is a new one.
+look=$root/release/out/look
 
 # Finds the digest of the sources (`sources`) and the one that sources.sha256 beside the released
-# files has (`released`). Where these are the same, the released files are those of SHA256SUMS there.
-#
-# A look takes longer than all else in a start, so the last one is kept in release/out/seen: its
-# digest, and below it the list of the files. It counts while the list is the same, to the letter.
-# So there is a new look after an edit, after a file came, went or was replaced, and in each copy of
-# the folder, whatever made it, also where times and sizes are as before. Where find can't list so
-# (BusyBox), each look is a new one.
+# files has (`released`). Where these are the same, the released files are those of SHA256SUMS there,
+# and `starts` is `yes` where a kept look found that the program starts. Then keep_look follows.
+#   take_look FILE.. (what else counts, such as the loader)
 take_look() {
-    seen=$root/release/out/seen sources='' released=''
+    new='' sources='' released=''
     { read -r released <"$ours/sources.sha256"; } 2>/dev/null
     is_digest "$released" ||
         fail "$ours/sources.sha256 is cut off or can't be read: bring it back" \
             "(git checkout release)"
-    { read -r sources <"$seen"; } 2>/dev/null
-    if is_digest "$sources" && { echo "$sources" && list_files; } | cmp -s - "$seen" 2>/dev/null
-    then
-        return
-    fi
-    new=$seen.$$
-    # (not `:`, which ends the shell where the folder can't be written)
+    if recall_look 2>/dev/null; then return; fi
+    starts=no
+    # (what a look lists is older than the digest that it finds)
     {
-        mkdir -p "$root/release/out" && true >"$new" &&
-            (list_files "release/out/seen.$$" >"$new")
+        mkdir -p "$root/release/out" && new=$(mktemp -d "$look.XXXXXX") &&
+            begun=$(LC_ALL=C stat -c %.9Z "$new") && list_halves "$@" &&
+            note "$new/first" >"$new/first.listed" && note "$new/second" >"$new/second.listed"
     } 2>/dev/null
     listed=$?
     sources=$(digest) || look_failed
     [ "$sources" != "$released" ] || check_released
-    [ "$listed" != 0 ] || keep_look 2>/dev/null
-    rm -f "$new" "$new.kept" 2>/dev/null
+}
+
+# Whether the kept look counts. If so, it has found `sources` and `starts`.
+recall_look() {
+    read -r sources begun starts noted <"$look/first.notes" && is_digest "$sources" &&
+        [ "$noted" = "$machine" ] || return
+    same_notes second &
+    same_notes first
+    first=$?
+    wait $! && [ $first = 0 ]
+}
+
+# Whether the notes of a half are those of the kept look. (Another start may put a new look in the place
+# of this one meanwhile: its notes begin with another line.)
+same_notes() {
+    { echo "$sources $begun $starts $machine" && note "$look/$1"; } | cmp -s - "$look/$1.notes"
+}
+
+# Writes the notes of the paths in a file.
+note() (
+    CDPATH='' cd "$root/" && LC_ALL=C xargs -0 stat -L -c '%.9Z %.9Y %i %s' <"$1"
+)
+
+# Lists what counts, in halves of about the same size: each second crate is in the same one.
+#   list_halves FILE..
+list_halves() (
+    counted=$(crates) && CDPATH='' cd "$root/" || exit
+    IFS=$newline
+    files=${ours#"$root/"}
+    set -- ./crates.txt release/sources.sh "$files/sources.sha256" "$files/SHA256SUMS" \
+        "$files/pmb" "$files/libpmb.a" "$files/libpmb.so" "$@"
+    first="$*" second=''
+    for line in $counted; do
+        folder=crates/${line%%[ :]*} other=$second
+        second=$first$newline$folder/src$newline$folder/specs$newline$folder/proofs
+        first=$other
+    done
+    # shellcheck disable=SC2086 # (a path a line)
+    list_paths $first >"$new/first" && list_paths $second >"$new/second"
+)
+
+# Lists files, and folders with the folders and sources in them. What is missing would come in the folder
+# above it, which stands for it.
+list_paths() {
+    for path in "$@"; do
+        shift
+        if [ -d "$path" ]; then
+            set -- "$@" "$path"
+        elif [ -e "$path" ] || [ -h "$path" ]; then
+            printf '%s\0' "$path"
+        else
+            printf '%s\0' "${path%/*}"
+        fi
+    done
+    # (-xtype: what a link names can become a folder)
+    find -L "$@" \( -type d -o -name '*.rt' -o -name '*.antt' -o -xtype l \) -print0
+}
+
+# Keeps a look that found the sources of a program that is there, so that no digest that went wrong
+# is kept.
+keep_look() {
+    [ -n "$new" ] || return 0
+    {
+        [ "$listed" = 0 ] && { [ "$sources" = "$released" ] || [ -s "$(built "$sources")" ]; } &&
+            keep_notes first && keep_notes second && mkdir -p "$look" &&
+            mv -f "$new/first" "$new/first.notes" "$new/second" "$new/second.notes" "$look" &&
+            rm -rf "$look".*
+    } 2>/dev/null
+    drop_look
+}
+
+# Writes the notes of a half. A change since the look began shows in the next notes, but for one in the
+# same tick of the clock as another before it. Where a file or folder changed as late as that, the look
+# is not kept. (A tick has 10 ms at most. A file system may leave out digits, or all of the seconds but
+# the even ones.)
+keep_notes() {
+    awk -v begun="$begun" -v found="$sources $begun $starts $machine" '
+        BEGIN { print found }
+        !/^[0-9]+\.[0-9]+ / || $1 + ($1 ~ /0000000$/ ? 2 : 0.02) >= begun + 0 { exit failed = 1 }
+        { print }
+        END { exit failed }
+    ' "$new/$1.listed" >"$new/$1.notes"
+}
+
+# Removes what a look leaves that isn't kept.
+drop_look() {
+    [ -z "$new" ] || rm -rf "$new" 2>/dev/null
 }
 
 # Ends where a look failed, which has said why.
 look_failed() {
-    rm -f "$new" 2>/dev/null
+    drop_look
     exit 125
-}
-
-# Keeps a look that found the sources of a program that is there, so that no digest that went wrong
-# is kept. The list was made before the digest was taken, and its first line tells when. So a change
-# since then shows in the next list, but for one in the same tick of the clock as another before it:
-# where a file changed as late as that, the look is not kept.
-keep_look() {
-    [ "$sources" = "$released" ] || [ -s "$(built "$sources")" ] || return
-    { echo "$sources" && awk '
-        NR == 1 { begun = $1; next }
-        $1 >= begun { exit failed = 1 }
-        { print }
-        END { exit failed || NR < 2 }
-    ' "$new"; } >"$new.kept" && mv -f "$new.kept" "$seen" && rm -f "$seen".*
 }
 
 # Fails where a released file is not the one of SHA256SUMS.
@@ -177,7 +245,7 @@ check_released() {
         case $newline$sums$newline in
             *"$newline${line:-none}$newline"*) continue ;;
         esac
-        rm -f "$new" 2>/dev/null
+        drop_look
         fail "$ours/$file is not the file that SHA256SUMS there lists: one of the two is" \
             "cut off or replaced. Bring them back (git checkout release)"
     done

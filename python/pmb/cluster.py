@@ -5,7 +5,7 @@
 `stats` makes one table of all captures, `json` writes the objects of each and `check` its refusals,
 in the order of the captures. A capture of more than a block is cut behind lines that end with STOP,
 and its pieces are read side by side. docs/scale.md has an example, and says where the answer may be
-another one than that of one machine.
+another one than that of one machine. Short captures of this machine are read by one process here.
 
 It needs Dask's `distributed` (`pip install './python[cluster]'`, or Debian's python3-distributed),
 and on each worker this package, or the program `pmb` on its path. A worker runs the program that it
@@ -23,14 +23,19 @@ finds there. All else is sent to it, so its package may be of another version, w
 import argparse
 import collections
 import contextlib
+import fcntl
+import glob
 import importlib
 import importlib.util
 import json
 import logging
 import os
 import re
+import shutil
+import signal
 import subprocess
 import sys
+import tempfile
 import threading
 import time
 import uuid
@@ -55,6 +60,10 @@ __all__ = ["main"]
 
 # The exit statuses of docs/program.md, and the launcher's where there is nothing to run.
 _DONE, _FOUND, _WRONG, _UNREAD, _NO_MEMORY, _NOTHING_TO_RUN = 0, 1, 2, 3, 4, 125
+# Captures of fewer bytes in all are read by one process here.
+_LEAST = 100 << 20
+# How the folders of what workers write are named.
+_PARTS = "pmb-cluster-"
 
 
 # ---- on the cluster
@@ -119,7 +128,7 @@ class _Cluster:
         self._own = _worker.version()
         self._run = "pmb-{}".format(uuid.uuid4().hex)
         self._number = 0
-        self.room = 4
+        self.room, self.threads = 4, 1
         self.look()
 
     def close(self) -> None:
@@ -152,7 +161,8 @@ class _Cluster:
             _tell("the worker {} is gone, and what it had is read again".format(lost))
         self._workers = set(found)
         threads = sum(each.get("nthreads", 1) for each in found.values())
-        self.room = 2 * max(threads, 1) + 2
+        self.threads = max(threads, 1)
+        self.room = 2 * self.threads + 2
         if not found and not self._is_waiting:
             _tell("{} has no worker, so this waits for one".format(self._address))
         self._is_waiting = not found
@@ -240,7 +250,7 @@ def _hand_on(job: Job, slot: _Slot) -> None:
         told, events, lines = here.start
         tells = here.tells
         if here.after is not None and here.after.start is None:
-            told = _worker.reduced(told + tells["tells"], job["read_words"])
+            told = _worker.reduced(told + tells["tells"], job["read_words"], job["pages"])
             here.after.start = told, events + tells["events"], lines + tells["lines"]
         here = here.after
 
@@ -274,6 +284,9 @@ def _drop(slots: Deque[_Slot]) -> None:
         for future in (slot.future, slot.telling):
             if future is not None:
                 future.cancel()
+        if slot.answer is not None and "part" in slot.answer:
+            with contextlib.suppress(OSError):
+                os.unlink(slot.answer["part"])
         if slot.is_last:
             break
 
@@ -326,6 +339,22 @@ class _Lines:
     def __init__(self, out: BinaryIO, count: int) -> None:
         self._out, self._has_heads = out, count > 1
 
+    def _append(self, part: str) -> None:
+        """Writes what a worker has put into a file, and removes that."""
+        with open(part, "rb", buffering=0) as file:
+            os.unlink(part)
+            self._out.flush()
+            place = 0
+            # (not every system or file can do this; what is left is copied)
+            with contextlib.suppress(AttributeError, OSError, ValueError):
+                while True:
+                    sent = os.sendfile(self._out.fileno(), file.fileno(), place, 1 << 24)
+                    if not sent:
+                        return
+                    place += sent
+            file.seek(place)
+            shutil.copyfileobj(file, self._out, 1 << 20)
+
     def begin(self, capture: _Capture) -> None:
         if self._has_heads:
             self._out.write(self.head(capture.path).encode() + b"\n")
@@ -350,16 +379,18 @@ class _Check(_Lines):
 
     def add(self, capture: _Capture, answer: Answer) -> bool:
         """Adds the answer of a piece. False if reading ends in it."""
-        told, _, last = answer["text"].rstrip(b"\n").rpartition(b"\n")
-        words = last.split()
-        self._packets += int(words[1])
-        self._refusals += int(words[3])
-        bad = rb"(?m)^# bad token at byte (\d+)"
-        has_bad = re.search(bad, told) is not None
-        told = _moved(rb"(?m)^# refusal at (\d+)", told, capture.events)
-        told = _moved(bad, told, answer["begin"])
-        self._out.write(told + b"\n" if told else b"")
-        return not has_bad
+        self._packets += answer["packets"]
+        self._refusals += answer["refusals"]
+        if not capture.events:
+            self._append(answer["part"])
+        else:
+            with open(answer["part"], "rb") as file:
+                os.unlink(answer["part"])
+                for lines in iter(lambda: file.readlines(1 << 20), []):
+                    told = _moved(rb"(?m)^# refusal at (\d+)", b"".join(lines), capture.events)
+                    told = _moved(rb"(?m)^# bad token at byte (\d+)", told, answer["begin"])
+                    self._out.write(told)
+        return not answer["bad"]
 
     def end(self, capture: _Capture) -> None:
         counts = b"packets %d refusals %d\n" % (self._packets, self._refusals)
@@ -404,7 +435,7 @@ class _Json(_Lines):
             )
         for it in map(json.loads, answer["front"].splitlines()):
             _add(self._devices[it["device"]] if "device" in it else self._whole, it, -1)
-        self._out.write(answer["text"])
+        self._append(answer["part"])
         return self._keeps_going or not counts[-1]["bad_tokens"]
 
     def end(self, capture: _Capture) -> None:
@@ -444,7 +475,7 @@ class _Stats:
         profile = job["profile"]
         self._sample = ["--sample"] if profile is None else []
         self._front = b"" if profile is None else profile + b"\n%%\n"
-        self._layout = _sums.layout_of(_said(["profile", *self._sample], profile or b""))
+        self._layout = _sums.layout_of(asked.profile_text())
 
     def begin(self, capture: _Capture) -> None:
         self._one = _sums.Sums()
@@ -476,8 +507,15 @@ class _Stats:
         if not opened:
             return
         first = min(bit.piece for bit in opened.values())
-        registers = sorted({(it.device, it.code) for it, _ in opened})
-        job = dict(self._job, registers=registers, sizes=self._layout.sizes)
+        places = sorted(
+            {(register, capture.pieces[bit.piece][0]) for (register, _), bit in opened.items()},
+            key=repr,
+        )
+        job = dict(
+            self._job,
+            opened=[(list(register), begin) for register, begin in places],
+            sizes=self._layout.sizes,
+        )
         slots = collections.deque(
             _Slot(capture.path, (begin, end), start) for begin, end, start in capture.pieces[first:]
         )
@@ -573,7 +611,8 @@ _MORE = """The workers read the captures, so each capture has to lie under the s
 them. A capture of more than a block is cut behind lines that end with STOP, and its pieces are read
 side by side. What a piece has to know of PAGE, PHASE and VOUT_MODE is found in the pieces before
 it, so the answer is that of one machine; docs/scale.md says where it may differ. With '--block 0'
-nothing is cut.
+nothing is cut. Without --block, captures of less than 100 MiB in all that are on this machine are
+read by one process here.
 
 Standard error names each capture that can't be read, with the reason, each worker that is lost, and
 each worker whose program is of another version. What a lost worker had is read again by another
@@ -605,7 +644,8 @@ class _Asked(NamedTuple):
     devices: List[str]
     is_json: bool
     fail_on: List[str]
-    block: int
+    block: Optional[int]
+    parts: Optional[str]
     retries: int
     paths: List[str]
 
@@ -621,20 +661,32 @@ class _Asked(NamedTuple):
         words += ["--late"] if self.late else []
         return words + (["--fixed-vout-mode"] if self.fixed_vout_mode else [])
 
-    def job(self) -> Job:
-        """What a worker has to know."""
+    def profile_text(self) -> str:
+        """What the program says of the profile."""
+        sample = ["--sample"] if self.profile is None else []
+        return _said(["profile", *sample], self.profile or b"")
+
+    def job(self, threads: int, parts: str) -> Job:
+        """What a worker has to know: also how many threads the workers have, and the folder for
+        what they write."""
         more: List[str] = [word for device in self.devices for word in ("--device", device)]
         if self.task == "stats":
             more += ["--json", "--digits", str(_sums.DIGITS)]
             more += ["--fail-on", ",".join(self.fails_on_reads() or ["none-read"])]
         elif self.digits is not None:
             more += ["--digits", str(self.digits)]
+        profile = self.profile_text()
+        # (what is written to several devices at once stands in no front)
+        is_whole = self.task != "check" and re.search("(?m)^also ", profile) is not None
         return {
             "task": self.task,
             "profile": self.profile,
             "words": self.words() + more,
             "read_words": self.words(),
-            "block": self.block,
+            "block": 0 if is_whole else self.block,
+            "threads": threads,
+            "pages": {device: pages for device, (pages, _) in _sums.layout_of(profile).sizes.items()},
+            "parts": parts,
             "carries": self.task != "check",
         }
 
@@ -690,8 +742,14 @@ def _parser() -> argparse.ArgumentParser:
         "--block",
         type=_size,
         metavar="SIZE",
-        help="cut captures into pieces of about so many bytes, such as 500000, 100M or 1G; 64M "
-        "without this, and 4M for json; 0 cuts none",
+        help="cut captures into pieces of about so many bytes, such as 500000, 100M or 1G, and "
+        "use the cluster however short they are; 0 cuts none; without this pieces have 8M to 64M",
+    )
+    add(
+        "--parts",
+        metavar="FOLDER",
+        help="where workers put what json and check write until its turn comes: a folder that all "
+        "of them and this machine share; without this one for temporary files",
     )
     add(
         "--retries",
@@ -764,15 +822,53 @@ def _asked(words: Optional[Sequence[str]]) -> _Asked:
         it.device,
         it.json,
         ["refusals", "bad-tokens"] if it.fail_on is None else it.fail_on.split(","),
-        it.block if it.block is not None else (4 if it.task == "json" else 64) << 20,
+        it.block,
+        it.parts,
         it.retries,
         it.paths,
     )
 
 
-def _read(cluster: _Cluster, asked: _Asked, out: BinaryIO) -> int:
+def _is_short(asked: _Asked) -> bool:
+    """Whether one process of this machine reads the captures: they are here, and short."""
+    if asked.block is not None:
+        return False
+    are_here = all(os.path.isfile(path) and os.access(path, os.R_OK) for path in asked.paths)
+    if not are_here or asked.task == "stats" and len(asked.paths) > 1:
+        return False
+    with contextlib.suppress(OSError):
+        return sum(map(os.path.getsize, asked.paths)) < _LEAST
+    return False
+
+
+def _read_here(asked: _Asked, out: BinaryIO) -> int:
+    """Reads captures with the program of this machine, one after the other."""
+    job = asked.job(1, "")
+    words = asked.words()
+    words += [word for device in asked.devices for word in ("--device", device)]
+    words += [] if asked.digits is None else ["--digits", str(asked.digits)]
+    if asked.task == "stats":
+        words += ["--json"] if asked.is_json else []
+        words += ["--fail-on", ",".join(asked.fail_on)]
+    result: Any = _Check(out, len(asked.paths))
+    if asked.task == "json":
+        result = _Json(out, len(asked.paths), asked.keeps_going)
+    status = _DONE
+    for path in asked.paths:
+        if asked.task != "stats":
+            result.begin(_Capture(path))
+        out.flush()
+        try:
+            status = max(status, _worker.whole(job, [asked.task, *words], path, out))
+        except (OSError, ValueError, MemoryError) as error:
+            status = max(status, _status_of(error))
+            _tell("{}: {}".format(_shown(path), _why(error)))
+    return status
+
+
+def _read(cluster: _Cluster, asked: _Asked, out: BinaryIO, parts: str) -> int:
     """Reads all captures, and returns the exit status."""
-    job = asked.job()
+    job = asked.job(cluster.threads, parts)
     result: Any
     if asked.task == "stats":
         result = _Stats(out, cluster, job, asked)
@@ -815,6 +911,44 @@ def _read(cluster: _Cluster, asked: _Asked, out: BinaryIO) -> int:
     return max(status, closed)
 
 
+@contextlib.contextmanager
+def _parts_in(folder: Optional[str]) -> Iterator[str]:
+    """A new folder for what the workers write, which is removed again. A client that is killed
+    leaves its folder to the next one: while a client runs it holds the lock of its own."""
+    try:
+        parts = os.path.abspath(tempfile.mkdtemp(prefix=_PARTS, dir=folder))
+        lock = open(os.path.join(parts, "new"), "wb")
+        with contextlib.suppress(OSError):
+            fcntl.flock(lock, fcntl.LOCK_EX)
+            # (so nobody meets it without its lock)
+            os.rename(lock.name, os.path.join(parts, "lock"))
+    except OSError as error:
+        raise _Gone("{}: {}".format(folder or "temporary files", error.strerror)) from None
+    try:
+        _remove_old(os.path.dirname(parts))
+        yield parts
+    finally:
+        lock.close()
+        _remove(parts)
+
+
+def _remove_old(folder: str) -> None:
+    """Removes the folders of this user's clients that were killed."""
+    for path in glob.glob(os.path.join(glob.escape(folder), _PARTS + "*", "lock")):
+        old = os.path.dirname(path)
+        with contextlib.suppress(OSError):
+            with open(path, "r+b") as lock:
+                fcntl.flock(lock, fcntl.LOCK_EX | fcntl.LOCK_NB)
+            if os.lstat(old).st_uid == os.geteuid():
+                _remove(old)
+
+
+def _remove(parts: str) -> None:
+    # (a worker may be writing still)
+    for _ in range(3):
+        shutil.rmtree(parts, ignore_errors=True)
+
+
 def _status_of(error: Optional[BaseException]) -> int:
     if isinstance(error, MemoryError):
         return _NO_MEMORY
@@ -834,13 +968,19 @@ def main(words: Optional[Sequence[str]] = None) -> int:
         0
     """
     asked = _asked(words)
+    if _is_short(asked):
+        try:
+            return _read_here(asked, sys.stdout.buffer)
+        except KeyboardInterrupt:
+            return 130
     if importlib.util.find_spec("distributed") is None:
         _tell("this needs Dask: pip install distributed, or apt-get install python3-distributed")
         return _NOTHING_TO_RUN
     cluster = None
     try:
         cluster = _Cluster(asked.scheduler, asked.retries)
-        return _read(cluster, asked, sys.stdout.buffer)
+        with _parts_in(asked.parts) as parts:
+            return _read(cluster, asked, sys.stdout.buffer, parts)
     except _Gone as error:
         _tell("{}".format(error))
     except KeyboardInterrupt:
@@ -856,4 +996,6 @@ def main(words: Optional[Sequence[str]] = None) -> int:
 
 
 if __name__ == "__main__":
+    # (so that the parts are removed)
+    signal.signal(signal.SIGTERM, lambda *_: sys.exit(143))
     sys.exit(main())
