@@ -3,9 +3,13 @@ archive, from which the wheel can be built elsewhere, and what `pip install -e .
 
 It needs nothing but Python, so `pip install ./python` fetches nothing. The wheel is one for the
 processor of this machine, or for the one that `pip wheel -C processor=aarch64 ./python` names.
+
+Of the same files it always makes the same bytes: what it makes has the time SOURCE_DATE_EPOCH, or else the
+first that a wheel can tell.
 """
 
 import base64
+import gzip
 import hashlib
 import io
 import os
@@ -13,6 +17,7 @@ import platform
 import stat
 import sys
 import tarfile
+import time
 import zipfile
 
 HERE = os.path.dirname(os.path.abspath(__file__))
@@ -48,6 +53,8 @@ Description-Content-Type: text/markdown
 """.format(VERSION)
 # What the library needs is in glibc 2.17 and in musl.
 SYSTEMS = ("manylinux_2_17_{}", "manylinux2014_{}", "musllinux_1_1_{}")
+# The first time that a wheel can tell, 1980-01-01.
+FIRST = 315532800
 WHEEL = """Wheel-Version: 1.0
 Generator: wheel_of_clone
 Root-Is-Purelib: false
@@ -63,10 +70,24 @@ def metadata():
     return METADATA.encode() + read(os.path.join(HERE, "README.md"))
 
 
+def moment():
+    """The time of each file, in seconds since 1970."""
+    return max(int(os.environ.get("SOURCE_DATE_EPOCH") or FIRST), FIRST)
+
+
+def release():
+    """The folder of the released files."""
+    return ARCHIVED if os.path.isdir(ARCHIVED) else RELEASE
+
+
 def released(processor):
     """The folder of the released files for a processor."""
-    release = ARCHIVED if os.path.isdir(ARCHIVED) else RELEASE
-    return os.path.join(release, FOLDERS[processor])
+    return os.path.join(release(), FOLDERS[processor])
+
+
+def rights():
+    """What is said of licences: that none is chosen, and which the libraries have that are linked in."""
+    return read(os.path.join(release(), "COPYRIGHT"))
 
 
 def page():
@@ -100,14 +121,14 @@ def modules():
 
 def files(processor):
     """Each file of a wheel but those of its own: its name, its mode and its bytes."""
-    release = released(processor)
+    folder = released(processor)
     for name, content in modules():
         yield name, 0o644, content
-    yield "pmb/libpmb.so", 0o755, read(os.path.join(release, "libpmb.so"))
+    yield "pmb/libpmb.so", 0o755, read(os.path.join(folder, "libpmb.so"))
     # (pmb.table makes its columns there)
-    yield "pmb/libpmb_table.so", 0o755, read(os.path.join(release, "libpmb_table.so"))
+    yield "pmb/libpmb_table.so", 0o755, read(os.path.join(folder, "libpmb_table.so"))
     # (python3 -m pmb starts it)
-    yield "pmb/pmb", 0o755, read(os.path.join(release, "pmb"))
+    yield "pmb/pmb", 0o755, read(os.path.join(folder, "pmb"))
     # (pmb.report writes it with recordings inside)
     yield "pmb/page.html", 0o644, read(page())
 
@@ -119,6 +140,7 @@ def sources():
         yield name, 0o644, read(os.path.join(HERE, name))
     for name, content in modules():
         yield name, 0o644, content
+    yield "release/COPYRIGHT", 0o644, rights()
     yield "release/pmb.html", 0o644, read(page())
     for processor, folder in FOLDERS.items():
         for name in ("libpmb.so", "libpmb_table.so", "pmb"):
@@ -130,8 +152,8 @@ def sources():
 
 
 def entry(path, mode):
-    """What a wheel says of a file. (1980 is as early as it can tell.)"""
-    found = zipfile.ZipInfo(path, (1980, 1, 1, 0, 0, 0))
+    """What a wheel says of a file."""
+    found = zipfile.ZipInfo(path, time.gmtime(moment())[:6])
     found.external_attr = (stat.S_IFREG | mode) << 16
     found.compress_type = zipfile.ZIP_DEFLATED
     return found
@@ -143,6 +165,7 @@ def write_wheel(directory, tags, content):
     lines = "".join("Tag: py3-none-{}\n".format(tag) for tag in tags)
     own = [
         (INFO + "/METADATA", 0o644, metadata()),
+        (INFO + "/COPYRIGHT", 0o644, rights()),
         (INFO + "/WHEEL", 0o644, (WHEEL + lines).encode()),
     ]
     record = ""
@@ -153,6 +176,19 @@ def write_wheel(directory, tags, content):
             record += "{},sha256={},{}\n".format(path, digest.decode(), len(data))
         wheel.writestr(entry(INFO + "/RECORD", 0o644), record + INFO + "/RECORD,,\n")
     return name
+
+
+def write_archive(directory, name, top, content, when):
+    """Writes an archive of files, all in one folder and of one time, and returns its name."""
+    path = os.path.join(directory, name + ".tar.gz")
+    # (gzip would tell the file's name and the time at which it was packed)
+    with open(path, "wb") as file, gzip.GzipFile("", "wb", 9, file, when) as packed:
+        with tarfile.open(fileobj=packed, mode="w", format=tarfile.PAX_FORMAT) as archive:
+            for inner, mode, data in content:
+                found = tarfile.TarInfo(top + "/" + inner)
+                found.size, found.mode, found.mtime = len(data), mode, when
+                archive.addfile(found, io.BytesIO(data))
+    return name + ".tar.gz"
 
 
 # ---- what pip calls
@@ -176,10 +212,4 @@ def build_editable(wheel_directory, config_settings=None, metadata_directory=Non
 def build_sdist(sdist_directory, config_settings=None):
     """An archive of what makes the wheel. The library and the program are in it as they were released:
     to build these takes a clone, and the toolchain."""
-    name = NAME + ".tar.gz"
-    with tarfile.open(os.path.join(sdist_directory, name), "w:gz", format=tarfile.PAX_FORMAT) as archive:
-        for path, mode, data in sources():
-            found = tarfile.TarInfo(NAME + "/" + path)
-            found.size, found.mode = len(data), mode
-            archive.addfile(found, io.BytesIO(data))
-    return name
+    return write_archive(sdist_directory, NAME, NAME, sources(), moment())
