@@ -183,12 +183,20 @@ def tables(profile: pmb.Profile, text: str, file: IO[str]) -> int:
     table: pmb.Table = pmb.table(profile, file, devices=[0x58], late=True, time="text")
     columns: Dict[str, List[Any]] = profile.table([text]).to_pydict(["time", "value"])
     capsule: object = table.__arrow_c_stream__()
-    pmb.table(profile, text, digits=3)  # type: ignore[call-arg]
-    pmb.table(profile, text, time=3)  # type: ignore[arg-type]
-    pmb.table(profile, 5)  # type: ignore[arg-type]
+    pmb.table(profile, text, digits=3)  # type: ignore[call-overload]
+    pmb.table(profile, text, time=3)  # type: ignore[call-overload]
+    pmb.table(profile, 5)  # type: ignore[call-overload]
     table.packets = 0  # type: ignore[misc]
     print(columns, capsule, table.colums)  # type: ignore[attr-defined]
     return len(table) + table.packets + table.refusals + table.nbytes
+
+
+async def awaited_tables(profile: pmb.Profile, reader: asyncio.StreamReader) -> int:
+    table: pmb.Table = await pmb.table(profile, reader, late=True)
+    task: "asyncio.Task[pmb.Table]" = asyncio.create_task(profile.table(reader, time="text"))
+    print(len(pmb.table("", reader)))  # type: ignore[arg-type, misc]
+    await pmb.table("", ["S b0"])  # type: ignore[misc]
+    return len(table) + len(await task)
 
 
 def reports(path: pathlib.Path) -> None:

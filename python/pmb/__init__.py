@@ -55,6 +55,7 @@ from typing import (
     AsyncIterator,
     Awaitable,
     Callable,
+    Coroutine,
     Iterable,
     Iterator,
     List,
@@ -950,6 +951,7 @@ class Profile:
         """
         return transactions(self, capture, devices, digits, late, fixed_vout_mode, keep_going)
 
+    @overload
     def table(
         self,
         capture: Union[Content, Iterable[Content]],
@@ -959,7 +961,30 @@ class Profile:
         fixed_vout_mode: bool = False,
         keep_going: bool = False,
         time: str = "seconds",
-    ) -> "Table":
+    ) -> "Table": ...
+
+    @overload
+    def table(
+        self,
+        capture: AsyncIterable[Content],
+        devices: _Devices = None,
+        *,
+        late: bool = False,
+        fixed_vout_mode: bool = False,
+        keep_going: bool = False,
+        time: str = "seconds",
+    ) -> Coroutine[Any, Any, "Table"]: ...
+
+    def table(
+        self,
+        capture: Any,
+        devices: _Devices = None,
+        *,
+        late: bool = False,
+        fixed_vout_mode: bool = False,
+        keep_going: bool = False,
+        time: str = "seconds",
+    ) -> Any:
         """What `pmb.table` returns under this profile.
 
             >>> import pmb

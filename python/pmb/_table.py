@@ -8,11 +8,25 @@ Neither that library nor this file is proved.
 import ctypes
 import datetime
 import os
-from typing import Any, Callable, Dict, Iterable, Iterator, List, Optional, Tuple, Union
+from typing import (
+    Any,
+    AsyncIterable,
+    Awaitable,
+    Callable,
+    Coroutine,
+    Dict,
+    Iterable,
+    Iterator,
+    List,
+    Optional,
+    Tuple,
+    Union,
+    overload,
+)
 
 from . import Error, Profile, Reader, _choice, _Devices, _Profiled
 from ._library import LIBRARY, Result, released
-from ._pieces import Content, pieces_of, wrong_type
+from ._pieces import Content, Pieces, awaited_pieces, pieces_of, wrong_type
 
 # ---- the structs of the Arrow C data and stream interfaces, by their specification
 
@@ -155,20 +169,41 @@ class _Columns:
             self.library.pmb_table_close(self.at)
 
 
-def _fill(columns: _Columns, reader: Reader, pieces: Iterator[bytes]) -> None:
-    """Gives the objects of a capture to the columns, for one piece after the other."""
+def _feed(columns: _Columns, reader: Reader, piece: Optional[bytes]) -> None:
+    """Gives the objects that a piece of a capture completes to the columns, or those of its end."""
     at = reader._opened().at
-    reader._make_room(_ROOM)
+    if piece is None:
+        status = LIBRARY.pmb_reader_end(at)
+    else:
+        status = LIBRARY.pmb_reader_feed(at, piece, len(piece))
+    reader._ended = status == _READER_ENDED
+    _take(columns, reader, at)
+    if status == _READER_NO_MEMORY:
+        raise MemoryError("no memory to read on")
+
+
+def _filled(columns: _Columns, reader: Reader, pieces: Iterator[bytes]) -> "Table":
+    """The table of the objects of a capture, for one piece after the other."""
+    while not reader.ended:
+        _feed(columns, reader, next(pieces, None))
+    return Table._of(columns, reader)
+
+
+async def _awaited(
+    columns: _Columns, reader: Reader, read: Callable[[], Awaitable[Content]]
+) -> "Table":
+    """The same of a capture whose pieces are waited for."""
+    pieces: Iterator[bytes] = iter(())
     while not reader.ended:
         piece = next(pieces, None)
-        if piece is None:
-            status = LIBRARY.pmb_reader_end(at)
-        else:
-            status = LIBRARY.pmb_reader_feed(at, piece, len(piece))
-        reader._ended = status == _READER_ENDED
-        _take(columns, reader, at)
-        if status == _READER_NO_MEMORY:
-            raise MemoryError("no memory to read on")
+        if piece is not None:
+            _feed(columns, reader, piece)
+            continue
+        try:
+            pieces = Pieces("a piece of capture", [await read()])
+        except StopAsyncIteration:
+            _feed(columns, reader, None)
+    return Table._of(columns, reader)
 
 
 def _take(columns: _Columns, reader: Reader, at: Any) -> None:
@@ -189,6 +224,7 @@ def _take(columns: _Columns, reader: Reader, at: Any) -> None:
         columns.add(reader._room, length)
 
 
+@overload
 def table(
     profile: _Profiled,
     capture: Union[Content, Iterable[Content]],
@@ -198,11 +234,37 @@ def table(
     fixed_vout_mode: bool = False,
     keep_going: bool = False,
     time: str = "seconds",
-) -> "Table":
+) -> "Table": ...
+
+
+@overload
+def table(
+    profile: _Profiled,
+    capture: AsyncIterable[Content],
+    devices: _Devices = None,
+    *,
+    late: bool = False,
+    fixed_vout_mode: bool = False,
+    keep_going: bool = False,
+    time: str = "seconds",
+) -> Coroutine[Any, Any, "Table"]: ...
+
+
+def table(
+    profile: _Profiled,
+    capture: Any,
+    devices: _Devices = None,
+    *,
+    late: bool = False,
+    fixed_vout_mode: bool = False,
+    keep_going: bool = False,
+    time: str = "seconds",
+) -> Any:
     """The packets of a capture, its refusals and bad words as a `Table`: a row for each, in their order,
     and a column for each key of the objects of `pmb.json`. The capture, the options and the errors are
-    those of `pmb.transactions`; only an asynchronous capture is a `TypeError`. There is no `digits`:
-    a value is the float64 that is nearest to the exact one, whose text stands in the column `exact`.
+    those of `pmb.transactions`. Of an `asyncio.StreamReader`, or another asynchronous iterable of pieces,
+    the table is waited for: `await pmb.table(profile, stream)`. There is no `digits`: a value is the
+    float64 that is nearest to the exact one, whose text stands in the column `exact`.
 
     `time` is what the column of this name has: `seconds`, as float64; `timestamp`, of a capture whose
     times are dates, in their zone; or `text`, what the capture has. A time of the other kind is a
@@ -227,14 +289,11 @@ take time='seconds' or time='text'
         raise Error("BadTime", "time", "one of {}, not {!r}".format(", ".join(_TIMES), time))
     if _TABLE is None:
         raise NotImplementedError("this package has no libpmb_table.so, which makes tables")
-    if hasattr(capture, "__aiter__"):
-        raise TypeError("capture is a text, a file, or an iterable of pieces, and no asynchronous one")
-    pieces = pieces_of(capture)
-    reader = Reader._of(profile, choice)
-    columns = _Columns(_TABLE, time)
-    _fill(columns, reader, pieces)
-    _raise(_TABLE.pmb_table_end(columns.at))
-    return Table._of(columns, reader.packets, reader.refusals)
+    is_awaited = hasattr(capture, "__aiter__")
+    pieces: Any = awaited_pieces(capture) if is_awaited else pieces_of(capture)
+    reader, columns = Reader._of(profile, choice), _Columns(_TABLE, time)
+    reader._make_room(_ROOM)
+    return _awaited(columns, reader, pieces) if is_awaited else _filled(columns, reader, pieces)
 
 
 table.__module__ = "pmb"
@@ -259,9 +318,11 @@ class Table:
         raise TypeError("a pmb.Table is made by pmb.table")
 
     @classmethod
-    def _of(cls, columns: _Columns, packets: int, refusals: int) -> "Table":
+    def _of(cls, columns: _Columns, reader: Reader) -> "Table":
+        """The table of columns that have all that a reader has read."""
+        _raise(columns.library.pmb_table_end(columns.at))
         made = cls.__new__(cls)
-        made._columns, made._packets, made._refusals = columns, packets, refusals
+        made._columns, made._packets, made._refusals = columns, reader.packets, reader.refusals
         return made
 
     _columns: _Columns
