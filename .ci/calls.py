@@ -38,6 +38,7 @@ import sys
 import tempfile
 import threading
 import typing
+import unittest.mock
 from decimal import Decimal
 from fractions import Fraction
 
@@ -1219,6 +1220,19 @@ def compare_package():
         check(wrong == 0 and count >= 40, f"{module.__name__}: {count} examples\n{printed.getvalue()}")
 
 
+def compare_reports():
+    """A report of the same recordings is the same bytes, whenever it is made."""
+    made = []
+    with tempfile.TemporaryDirectory() as folder:
+        for at in (1e9, 2e9):
+            path = os.path.join(folder, str(at))
+            with unittest.mock.patch("time.time", lambda at=at: at):
+                pmb.report(PLAIN, {"one.txt": SMALL}, path)
+            with open(path, "rb") as file:
+                made.append(file.read())
+    check(made[0] == made[1] != b"", "a report at another time is other bytes")
+
+
 def compare_program(program):
     """`python3 -m pmb` is the released program, and says where there is none."""
     def started(words, folder=None):
@@ -1870,6 +1884,7 @@ def main():
     compare_imports(program, int(sys.argv[2]) if len(sys.argv) > 2 else 10000)
     compare_messages()
     compare_package()
+    compare_reports()
     compare_program(program)
     compare_page()
     compare_threads()

@@ -80,7 +80,8 @@ def report(
         raise ValueError("a report has one recording at least")
     own = None if profile is None else {"text": profile, "name": name}
     data = json.dumps({"profile": own, "recordings": inside}).encode()
-    packed = base64.b64encode(gzip.compress(data, 9)).decode()
+    # (without a time, so that the same recordings make the same bytes)
+    packed = base64.b64encode(gzip.compress(data, 9, mtime=0)).decode()
     before, after = _page().split(_PLACE)
     with open(out, "w", encoding="utf-8") as file:
         file.write(before + _PLACE.replace("></", ">" + packed + "</") + after)
