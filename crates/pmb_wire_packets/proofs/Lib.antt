@@ -1,0 +1,3 @@
+pub mod CaptureLaw
+pub mod Digits
+pub mod PiecesLaw

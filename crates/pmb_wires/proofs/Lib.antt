@@ -1,0 +1,6 @@
+pub mod AddedLaw
+pub mod ExchangedLaw
+pub mod FilterLaw
+pub mod KindLemmas
+pub mod SpikeLemmas
+pub mod TrackerLaw
