@@ -1,0 +1,4 @@
+pub mod Body
+pub mod Timescale
+pub mod Tokens
+pub mod Words
