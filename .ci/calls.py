@@ -829,7 +829,9 @@ def compare_recorders(program):
             fault = f"pmb: import: {error.fault}"
             check(error.place == places[error.fault], f"{words}: {error.place}")
             check(str(error).startswith(f"{error.fault} in {error.place}: "), f"{words}: {error}")
-        check(fault == ran.stderr.decode().strip(), f"{words}: {fault!r}, and not {ran.stderr!r}")
+        # (a recording of no bytes has no packets)
+        right = fault or "pmb: import: no packets"
+        check(right == ran.stderr.decode().strip(), f"{words}: {right!r}, and not {ran.stderr!r}")
         check((ran.returncode == 2) == bool(fault), f"{words}: status {ran.returncode}")
         found[fault] += 1
     check(len(found) == 5, f"{found}")
@@ -1257,7 +1259,8 @@ def compare_program(program):
         # (one that may be read alone is started by the loader)
         shutil.copyfile(released, beside)
         found = started(["--version"], folder)
-        check(found == (0, f"pmb {pmb.version()}\n", ""), f"a program that may only be read: {found}")
+        check(found[0] == 0 and found[1].startswith(f"pmb {pmb.version()}\n") and found[2] == "",
+              f"a program that may only be read: {found}")
         with open(beside, "w") as file:
             file.write("#!/no/such/shell\n")
         os.chmod(beside, 0o755)
@@ -1901,7 +1904,7 @@ def main():
     compare_follow()
     compare_memory()
     ran = subprocess.run([program, "--version"], capture_output=True)
-    check(ran.stdout.decode().split()[-1] == pmb.version(), f"the version {pmb.version()}")
+    check(ran.stdout.decode().split()[1] == pmb.version(), f"the version {pmb.version()}")
     return 1 if failed else 0
 
 

@@ -57,6 +57,7 @@ def of_spellings():
         "json --device 59: a packet of the mix": ["json", "--device", "59"],
     }.items():
         yield Row(name, [*words, "--sample"], text, times * len(MIX), "")
+    yield Row("scan: a packet of the mix", ["scan"], text, times * len(MIX), "")
 
 
 def of_captures():
@@ -189,6 +190,8 @@ def of_starts():
         yield Row(f"start: {task} --sample", [task, "--sample"], "")
         yield Row(f"start: {task}, 64 devices", [task], FRONT)
     yield Row("start: stats --json --sample", ["stats", "--json", "--sample"], "")
+    yield Row("start: scan", ["scan"], "")
+    yield Row("start: parts --help", ["parts", "--help"], "")
     yield Row("start: profile --sample", ["profile", "--sample"], "")
     yield Row("start: profile, 64 devices", ["profile"], MANY)
     yield Row("start: profile with a fault", ["profile"], FAULTY, status=2)

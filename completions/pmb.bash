@@ -1,6 +1,6 @@
 # shellcheck shell=bash
 # Completion of the words of pmb in bash (docs/program.md#completion): subcommands, flags, FORMATs, sources,
-# addresses of devices, and after `<` the profiles of parts beside files.
+# addresses of devices, files, and after `-p` and `<` the profiles of parts beside files.
 
 # The profiles of real parts that are installed, a path a line.
 _pmb_parts() {
@@ -28,6 +28,11 @@ _pmb_devices() {
     esac
 }
 
+# The names of the parts, each with the mark before its address.
+_pmb_names() {
+    pmb parts 2>/dev/null | sed 's/ .*/@/'
+}
+
 # What FORMAT can be, after what stands there so far.
 _pmb_formats() {
     local it
@@ -40,22 +45,28 @@ _pmb_formats() {
     esac
 }
 
+# The names of faults, a line each.
+_pmb_faults() {
+    "${words[0]}" explain 2>/dev/null | sed 's/^[^:]*: //' | tr ' ' '\n' | sort -u
+}
+
 # The flags of a subcommand.
 _pmb_flags() {
-    local facts='--sample --late --fixed-vout-mode --keep-going --digits --device'
+    local facts='--profile --part --joined --sample --late --fixed-vout-mode --keep-going --digits --device'
     case $1 in
-        import) echo --bus --rate --unshifted --help ;;
-        show | check | build | run | profile) echo --sample --help ;;
+        import) echo --joined --bus --rate --unshifted --help ;;
+        show | check | build | run | profile) echo --profile --part --joined --sample --help ;;
+        scan) echo --joined --help ;;
         json | log) echo "$facts" --help ;;
         stats) echo --json "$facts" --fail-on --help ;;
-        encode | decode) echo --help ;;
+        encode | decode | parts | explain) echo --help ;;
         '') echo --help --version ;;
     esac
 }
 
 # Whether a flag has a value.
 _pmb_has_value() {
-    case $1 in --bus | --rate | --digits | --device | --fail-on) ;; *) return 1 ;; esac
+    case $1 in -p | --profile | --part | --bus | --rate | --digits | --device | --fail-on) ;; *) return 1 ;; esac
 }
 
 # What the value of a flag can be, after what stands there so far.
@@ -65,6 +76,7 @@ _pmb_values() {
     case $1 in
         --digits) printf '%s\n' {0..12} ;;
         --device) _pmb_devices ;;
+        --part) _pmb_names ;;
         --fail-on)
             case $2 in *,*) front=${2%,*}, ;; esac
             printf '%s\n' "$front"{refusals,bad-tokens,nacks,alerts,faults,none-read}
@@ -87,9 +99,12 @@ _pmb_words() {
         -*) _pmb_flags "$command" | tr ' ' '\n' ;;
         *)
             case $command:$given in
-                : | help:) printf '%s\n' import show check json log stats build run profile encode decode help ;;
+                :) printf '%s\n' import log stats show check json profile scan parts build run encode decode explain help ;;
+                help:) printf '%s\n' import log stats show check json profile scan parts build run encode decode help ;;
+                explain:*) _pmb_faults ;;
                 import:) printf '%s\n' sigrok saleae beagle kernel smbus ;;
                 encode: | decode:) _pmb_formats ;;
+                parts:*) _pmb_names ;;
             esac
             ;;
     esac
@@ -111,11 +126,26 @@ _pmb_front() {
     done
 }
 
-# Files, and after `<` the parts whose names begin so.
+# Whether a file is to be named that may be a profile: after `-p` and `<`, and for `profile`.
+_pmb_names_profile() {
+    case $last:$command in '<:'* | -p:* | --profile:* | :profile) ;; *) return 1 ;; esac
+}
+
+# Whether a file is to be named.
+_pmb_names_file() {
+    case $last:$command in
+        -p:* | --profile:*) ;;
+        :import) [[ -n $given && $current != -* ]] ;;
+        :show | :check | :json | :log | :stats | :build | :run | :profile | :scan) [[ $current != -* ]] ;;
+        *) return 1 ;;
+    esac
+}
+
+# Files, and where a profile may be named the parts whose names begin so.
 _pmb_files() {
     local it
     while IFS='' read -r it; do COMPREPLY+=("$it"); done < <(compgen -f -- "$1")
-    if [ "$last" = '<' ]; then
+    if _pmb_names_profile; then
         while IFS='' read -r it; do
             [[ ${it##*/} != "$1"* ]] || COMPREPLY+=("$it")
         done < <(_pmb_parts)
@@ -136,12 +166,12 @@ _pmb() {
     if [[ $current == [\<\>]* ]]; then
         last=${current:0:1} current=${current#[<>]}
     fi
-    if [[ $last == [\<\>]* ]]; then
+    if [[ $last == [\<\>]* ]] || _pmb_names_file; then
         _pmb_files "$current"
         return
     fi
     # (of a word with one of these marks bash replaces what is behind the last of them)
-    for mark in : =; do
+    for mark in : = @; do
         if [[ $COMP_WORDBREAKS == *$mark* && ${current#"$front"} == *$mark* ]]; then
             front=${current%"$mark"*}$mark
         fi
@@ -150,7 +180,7 @@ _pmb() {
         [[ -z $it || $it != "$current"* ]] || COMPREPLY+=("${it#"$front"}")
     done < <(_pmb_words)
     # (a word that goes on has no blank after it)
-    if [[ ${#COMPREPLY[@]} = 1 && ${COMPREPLY[0]} == *: ]]; then
+    if [[ ${#COMPREPLY[@]} = 1 && ${COMPREPLY[0]} == *[:@] ]]; then
         compopt -o nospace 2>/dev/null
     fi
 }

@@ -34,7 +34,7 @@ extern "C" {
 
 /* The version of this header: the major number in bits 31:16, the minor one in bits 15:8, the patch
  * in bits 7:0. */
-#define PMB_VERSION 0x000100u
+#define PMB_VERSION 0x000200u
 
 /* The version of the library that is linked. */
 uint32_t pmb_version(void);

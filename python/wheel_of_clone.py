@@ -26,7 +26,7 @@ RELEASE = os.path.join(HERE, os.pardir, "release")
 ARCHIVED = os.path.join(HERE, "release")
 # Their folder for each processor.
 FOLDERS = {"x86_64": "", "aarch64": "aarch64"}
-VERSION = "0.1.0"
+VERSION = "0.2.0"
 NAME = "pmb-{}".format(VERSION)
 INFO = NAME + ".dist-info"
 # (`.ci/calls.py` compares it with pyproject.toml)
@@ -119,6 +119,15 @@ def modules():
             yield "pmb/" + name, read(os.path.join(package, name))
 
 
+def parts():
+    """The profiles of real parts: of the archive, or of the clone."""
+    archived = os.path.join(ARCHIVED, "profiles")
+    folder = archived if os.path.isdir(archived) else os.path.join(os.path.dirname(RELEASE), "examples", "profiles")
+    for name in sorted(os.listdir(folder)):
+        if name.endswith(".toml"):
+            yield "profiles/" + name, read(os.path.join(folder, name))
+
+
 def files(processor):
     """Each file of a wheel but those of its own: its name, its mode and its bytes."""
     folder = released(processor)
@@ -131,6 +140,9 @@ def files(processor):
     yield "pmb/pmb", 0o755, read(os.path.join(folder, "pmb"))
     # (pmb.report writes it with recordings inside)
     yield "pmb/page.html", 0o644, read(page())
+    # (`pmb parts` looks beside the program)
+    for name, content in parts():
+        yield "pmb/" + name, 0o644, content
 
 
 def sources():
@@ -142,6 +154,8 @@ def sources():
         yield name, 0o644, content
     yield "release/COPYRIGHT", 0o644, rights()
     yield "release/pmb.html", 0o644, read(page())
+    for name, content in parts():
+        yield "release/" + name, 0o644, content
     for processor, folder in FOLDERS.items():
         for name in ("libpmb.so", "libpmb_table.so", "pmb"):
             path = os.path.join("release", folder, name)

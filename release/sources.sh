@@ -302,6 +302,19 @@ unlock() {
     fi
 }
 
+# Puts the first twelve digits of the digest of the program's sources into its object, in the place of
+# the zeros in the text of `pmb --version`. There is one such place.
+#   stamp OBJECT
+stamp() {
+    zeros=000000000000
+    digits=$(digest) && digits=${digits%"${digits#????????????}"} || return
+    [ "$(LC_ALL=C grep -ao "sources $zeros" "$1" | wc -l)" -eq 1 ] || {
+        echo "pmb: $1 does not say once where the digest of its sources goes" >&2
+        return 1
+    }
+    LC_ALL=C sed "s/sources $zeros/sources $digits/" "$1" >"$1.stamped" && mv -f "$1.stamped" "$1"
+}
+
 # Where a program that was built here from the sources with the digest stands.
 built() {
     echo "$root/release/out/$1/pmb"

@@ -1,7 +1,8 @@
 // Stands beside the program's object in the link of the released program (release/link), so that
 // other C libraries than that of the toolchain start it: glibc from 2.14 on, and musl. The
-// toolchain's own link takes three things from the C library that these lack: its start under the
-// version of glibc 2.34, the list of what the processor has, of 2.33, and a second name of `write`.
+// toolchain's own link takes five things from the C library that these lack: its start under the
+// version of glibc 2.34, the list of what the processor has, of 2.33, `getdents64`, of 2.30, `statx`, of
+// 2.28, and a second name of `write`.
 
 typedef int entry(int count, char **words, char **environment);
 typedef void constructor(int count, char **words, char **environment);
@@ -11,6 +12,9 @@ extern int first_start(entry *main, int count, char **words, constructor *constr
                        void (*end)(void), void (*end_libraries)(void), void *stack);
 __asm__(".symver first_start, __libc_start_main@GLIBC_2.2.5");
 extern long write(int file, const void *bytes, unsigned long count);
+
+#include "getdents64.h"
+#include "statx.h"
 
 #pragma GCC visibility push(hidden)
 

@@ -13,6 +13,7 @@ Ran = collections.namedtuple("Ran", "status out err reads writes tells")
 ASKED, ANSWERED = struct.Struct("6Q"), struct.Struct("6Q")
 SAME = 2**64 - 1
 MOST = 24  # programs that wait at once
+UNEXPLAINED = {"PMB_EXPLAIN": "0"}  # whatever standard error is
 
 
 def compiled(folder, who):
@@ -32,9 +33,10 @@ def compiled(folder, who):
     return shim
 
 
-def run_alone(program, words, given):
+def run_alone(program, words, given, environment=None):
     """A run in a process of its own; a signal that ends it is a negative status."""
-    done = subprocess.run([program, *words], input=given, stdout=subprocess.PIPE,
+    env = dict(os.environ, **(environment or UNEXPLAINED))
+    done = subprocess.run([program, *words], input=given, stdout=subprocess.PIPE, env=env,
                           stderr=subprocess.PIPE, close_fds=False, timeout=120, check=False)
     return Ran(done.returncode, done.stdout, done.stderr, None, None, None)
 
@@ -49,7 +51,8 @@ class Again:
     def __init__(self, program, shim, words):
         asked, self.to = os.pipe()
         self.back, answered = os.pipe()
-        environment = dict(os.environ, LD_PRELOAD=shim, AGAIN_FROM=str(asked), AGAIN_TO=str(answered))
+        environment = dict(os.environ, **UNEXPLAINED, LD_PRELOAD=shim, AGAIN_FROM=str(asked),
+                           AGAIN_TO=str(answered))
         self.process = subprocess.Popen([program, *words], stdin=subprocess.DEVNULL, env=environment,
                                         pass_fds=(asked, answered))
         os.close(asked)

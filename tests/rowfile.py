@@ -7,6 +7,7 @@
     == TITLE         begins a section
     = NAME           begins a row
     $ WORD..         the words after `pmb`; `WORDS | WORDS` gives one run's output to the next run
+    & NAME=VALUE     a variable of the environment; such a row is run whole alone
     % NAME, NAME     the frames that a row is put in, one after the other
     ~ CALLS          which call fails: `fails after 5 to 9 reads`, `.. 0 writes`, `.. 0 tells` (of
                      standard error); bytes come one a read then, or `one by one from N` on; or
@@ -16,7 +17,7 @@
     ! TEXT           a line of standard error; `!...` stands for any bytes
     ? N              the exit status, where it isn't 0
 
-`$`, `%` and `~` of a section hold for its rows, unless a row has its own. In a text \\r, \\t, \\n,
+`$`, `&`, `%` and `~` of a section hold for its rows, unless a row has its own. In a text \\r, \\t, \\n,
 \\\\ and \\xHH are bytes, \\{N*TEXT} is a text so many times, and a \\ at a line's end says that no LF
 ends the line. \\(KEY+N) is the number of \\(KEY) and N more, and \\(standard_commands) is how many
 rows the table of standard commands in docs/profiles.md has. In `$` a word without characters is ''.
@@ -55,7 +56,9 @@ class Row:
     """A row: where it stands, its words, and its texts. `out` and `err` are lists of bytes, with None
     for any bytes. `front` stands before the input of each stage of several."""
 
-    def __init__(self, place, name, stages, given, out, err, status, calls=None, is_twice=False):
+    def __init__(self, place, name, stages, given, out, err, status, calls=None, is_twice=False,
+                 environment=None):
+        self.environment = environment
         self.place, self.name, self.stages, self.given = place, name, stages, given
         self.out, self.err, self.status = out, err, status
         self.calls, self.is_twice, self.front = calls, is_twice, b""
@@ -148,7 +151,7 @@ class Reading:
         elif sign == ":":
             key, value = rest.strip().split(" = ", 1)
             self.frame[1][key] = value.encode()
-        elif sign in "$%~":
+        elif sign in "$&%~":
             (self.section if self.row is None else self.row)[sign] = rest.strip()
         elif sign in "<>!":
             self.row[{"<": "given", ">": "out", "!": "err"}[sign]].append(rest)
@@ -173,7 +176,8 @@ class Reading:
             is_twice = calls == "twice"
             found = Row(row["place"], row["name"] + (", " + name if len(names) > 1 else ""), stages,
                         given, text_of(row["out"], values), text_of(row["err"], values),
-                        row["status"], None if calls is None or is_twice else Calls(calls), is_twice)
+                        row["status"], None if calls is None or is_twice else Calls(calls), is_twice,
+                        dict([row["&"].split("=", 1)]) if "&" in row else None)
             found.front = given[:len(given) - len(values["input"])]
             self.rows.append(found)
 

@@ -105,7 +105,7 @@ def ended_lines(task, matter, count):
 
 def as_check(row):
     """A row of `show` as one of `check`, where it says what that prints."""
-    if row.calls or len(row.stages) > 1 or row.stages[0][:1] != [b"show"] or None in row.out:
+    if row.calls or row.environment or len(row.stages) > 1 or row.stages[0][:1] != [b"show"] or None in row.out:
         return None
     if row.status > 1 or row.err:
         out = row.out
@@ -265,7 +265,7 @@ class Worker:
             ran = run_alone(self.path, words, given)
             need((ran.status, ran.err) == (0, b""), " ".join(map(repr, words)), "fails", ran)
             given = row.front + ran.out
-        ran = run_alone(self.path, row.stages[-1], given)
+        ran = run_alone(self.path, row.stages[-1], given, row.environment)
         is_so = row.is_out(ran.out) and row.is_err(ran.err) and ran.status == row.status
         need(is_so, "whole", "unlike the row", ran)
         return given, ran
@@ -278,6 +278,8 @@ class Worker:
             runs = 1
         else:
             given, whole = row.given, Ran(row.status, b"", b"", 0, 0, 0)
+        if row.environment:
+            return runs
         if self.programs:
             words = row.stages[-1]
             trial = Trial(row, given, whole, self.programs.of(words), self.most)

@@ -39,7 +39,7 @@ static long failed(int number)
     return -1;
 }
 
-enum { EBADF = 9, ESPIPE = 29, EIO = 5, LARGEST = 1 << 30 };
+enum { ENOENT = 2, EBADF = 9, ESPIPE = 29, EIO = 5, LARGEST = 1 << 30 };
 
 long read(int file, void *bytes, size most)
 {
@@ -60,6 +60,43 @@ long write(int file, const void *bytes, size count)
 long __write(int file, const void *bytes, size count)
 {
     return write(file, bytes, count);
+}
+
+// There are no files: nothing of any name is there.
+int open(const char *path, int flags, ...)
+{
+    (void)path, (void)flags;
+    return (int)failed(ENOENT);
+}
+
+int statx(int folder, const char *path, int flags, unsigned asked, void *found)
+{
+    (void)folder, (void)path, (void)flags, (void)asked, (void)found;
+    return (int)failed(ENOENT);
+}
+
+int rattle_open_dir_at(int folder, const char *name)
+{
+    (void)folder, (void)name;
+    return (int)failed(ENOENT);
+}
+
+long readlink(const char *path, char *text, size room)
+{
+    (void)path, (void)text, (void)room;
+    return failed(ENOENT);
+}
+
+long getdents64(int folder, void *entries, size room)
+{
+    (void)folder, (void)entries, (void)room;
+    return failed(EBADF);
+}
+
+int close(int file)
+{
+    (void)file;
+    return (int)failed(EBADF);
 }
 
 // (as of a pipe)

@@ -152,9 +152,11 @@ IMPORTS = [
     (["import", "kernel"], TRACE),
     (["import", "sigrok", "--rate", "1000"], DECODED),
 ]
+# `scan`, which reads a capture alone, and writes at its end.
+SCANS = [(["scan"], CAPTURE)]
 # Words that read nothing: calls for help and the version, none, and bad ones.
 HELP = [["help"], ["--help"], ["--version"], ["show", "--help"], ["help", "encode"],
-        ["profile", "--help"]]
+        ["profile", "--help"], ["parts", "--help"]]
 BAD_WORDS = [[], ["bad"], ["show", "--bad"], ["encode"], ["encode", "foo"], ["decode", "linear11:99"]]
 
 
@@ -224,5 +226,6 @@ def large_inputs(program):
         (["encode", "linear11"], large_quantities()),
         (["decode", "linear11"], large_codes()),
         (["import", "kernel"], b"".join(TRACE) * (LARGE // len(b"".join(TRACE)))),
+        (["scan"], capture),
         (["show"], FRONT + capture),
     ]

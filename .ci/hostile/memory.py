@@ -5,7 +5,7 @@ import os
 import re
 
 from inputs import (BAD_WORDS, BEHIND_A_PROFILE, CONVERSIONS, DESCRIPTIONS, FAULTY, FRONT, HELP, IMPORTS,
-                    UNDER_SAMPLE, WITH_A_PROFILE)
+                    SCANS, UNDER_SAMPLE, WITH_A_PROFILE)
 from program import name_of, tells_fault, told
 
 NO_MEMORY = b"pmb: no memory\n"
@@ -17,6 +17,9 @@ Case = collections.namedtuple("Case", "words text front may_tell faults")
 def cases():
     for words, rows in UNDER_SAMPLE + CONVERSIONS + IMPORTS:
         yield Case(words, b"".join(rows), 0, False, {})
+    for words, rows in SCANS:
+        # (for the text it wants memory once the capture has been read)
+        yield Case(words, b"".join(rows), len(b"".join(rows)), False, {})
     for words, rows in BEHIND_A_PROFILE:
         # Read byte by byte, so that what was read beyond the profile shows.
         yield Case(words, FRONT + b"".join(rows), len(FRONT), False, {"move_at_most": 1})

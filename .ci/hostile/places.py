@@ -7,19 +7,21 @@ import select
 import termios
 import time
 
-from inputs import (BEHIND_A_PROFILE, CONVERSIONS, DESCRIPTIONS, FRONT, HELP, IMPORTS, MEGABYTE, SMALL_BUS,
+from inputs import (BEHIND_A_PROFILE, CONVERSIONS, DESCRIPTIONS, FRONT, HELP, IMPORTS, MEGABYTE, SCANS, SMALL_BUS,
                     UNDER_SAMPLE)
 from profiles import LIMIT, all_commands
-from program import contents, name_of
+from program import contents, name_of, said
 from streams import READ_FAILED, WRITE_FAILED, answers_to_rows
 
+# What standard error has where standard input is a terminal.
+AT_TERMINAL = b"pmb: reading from the terminal until Ctrl-D; 'pmb COMMAND FILE' reads a file\n"
 # A terminal that gives no answer within so many seconds counts as silent.
 PATIENCE = 20
 
 
 def runs():
     """Words with an input of some rows, or of a profile."""
-    return [(words, b"".join(rows)) for words, rows in UNDER_SAMPLE + CONVERSIONS + IMPORTS] + [
+    return [(words, b"".join(rows)) for words, rows in UNDER_SAMPLE + CONVERSIONS + IMPORTS + SCANS] + [
         (words, FRONT + b"".join(rows)) for words, rows in BEHIND_A_PROFILE] + [
         (["profile"], SMALL_BUS)]
 
@@ -66,18 +68,18 @@ def output_that_cannot_be_written(program, report):
             err = on_new_file(program, "told")
             status, _, _ = program.ended(started_on(program, words, text, out, err))
             report.same(f"{name_of(words)}, standard output {name}", (3, WRITE_FAILED),
-                        (status, contents(err)))
+                        (status, said(words, status, contents(err))))
             os.close(err)
     os.close(full)
 
 
 def closed_pipe(program, report):
     """`| head -n 1`: the pipe is closed once it has given something, and is far too small for the
-    rest. No signal ends the program, and no line says what whoever closed it knows. What `stats` writes
-    is too little for that."""
+    rest. No signal ends the program, and no line says what whoever closed it knows. What `stats` and `scan`
+    write is too little for that."""
     inputs = [(["profile"], all_commands(LIMIT).encode())]
-    for words, rows in UNDER_SAMPLE + CONVERSIONS + IMPORTS:
-        if words[0] == "stats":
+    for words, rows in UNDER_SAMPLE + CONVERSIONS + IMPORTS + SCANS:
+        if words[0] in ("stats", "scan"):
             continue
         row = rows[3] if words[0] == "check" else rows[0]
         inputs.append((words, row * (2 * MEGABYTE // len(row))))
@@ -90,7 +92,7 @@ def closed_pipe(program, report):
         os.close(receiver)
         status, _, _ = program.ended(process)
         report.holds(begun != b"", name_of(words) + " | head", "some output", begun)
-        report.same(name_of(words) + " | head", (3, b""), (status, contents(err)))
+        report.same(name_of(words) + " | head", (3, b""), (status, said(words, status, contents(err))))
         os.close(err)
 
 
@@ -104,7 +106,7 @@ def input_that_is_the_output(program, report):
         ordinary = program.run(words, text)
         status, _, _ = program.ended(program.start(words, [file, file, err]))
         report.same(f"{name_of(words)} <>file >&0",
-                    (ordinary.status, text + ordinary.out, b""), (status, contents(file), contents(err)))
+                    (ordinary.status, text + ordinary.out, b""), (status, contents(file), said(words, status, contents(err))))
         os.close(file)
         os.close(err)
 
@@ -131,13 +133,14 @@ def silent_terminal():
 
 def terminal(program, report):
     """A terminal as all three streams: each line that is typed is answered, and ^D is the end."""
-    for words, rows in UNDER_SAMPLE + CONVERSIONS + IMPORTS:
+    for words, rows in UNDER_SAMPLE + CONVERSIONS + IMPORTS + SCANS:
         # A terminal makes a LF of a CR.
         rows = [row for row in rows if b"\r" not in row]
         outs = answers_to_rows(program, words, b"", rows)
         ordinary = program.run(words, b"".join(rows))
         user, line = silent_terminal()
         process = program.start(words, [line, line, line])
+        report.same(f"{name_of(words)} on a terminal, at first", AT_TERMINAL, shown_by(user, len(AT_TERMINAL)))
         typed = [(row, out[len(before):]) for row, before, out in zip(rows, outs, outs[1:])]
         for row, wanted in [*typed, (b"\x04", ordinary.out[len(outs[-1]):])]:
             os.write(user, row)

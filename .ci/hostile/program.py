@@ -41,7 +41,7 @@ class Program:
 
     def environment(self, faults):
         told = {name.upper(): str(value) for name, value in faults.items()}
-        return {"LD_PRELOAD": self.shim, "COUNTS_TO": "3", "END_AFTER": str(END_AFTER), **told}
+        return {"LD_PRELOAD": self.shim, "COUNTS_TO": "3", "END_AFTER": str(END_AFTER), "PMB_EXPLAIN": "0", **told}
 
     def start(self, words, streams, **faults):
         """Starts the program with these descriptors as standard input, output and error, None for
@@ -87,7 +87,15 @@ class Program:
             os.lseek(file, 0, os.SEEK_SET)
         status, counts, seconds = self.ended(
             self.start(words, [source, self.out, self.err], **faults))
-        return Answer(status, contents(self.out), contents(self.err), counts, seconds)
+        return Answer(status, contents(self.out), said(words, status, contents(self.err)), counts, seconds)
+
+
+def said(words, status, text):
+    """What was said on standard error, without the line that ends an `import` with status 1."""
+    lines = text.splitlines(True)
+    if words[:1] == ["import"] and status == 1 and lines and lines[-1].startswith(b"pmb: import: "):
+        return b"".join(lines[:-1])
+    return text
 
 
 def contents(file):

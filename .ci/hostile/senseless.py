@@ -3,10 +3,12 @@
 import os
 import random
 
-from inputs import CONVERSIONS, IMPORTS, MEGABYTE, SEED, UNDER_SAMPLE
-from program import Answer, contents, name_of, short
+from inputs import CONVERSIONS, IMPORTS, MEGABYTE, SCANS, SEED, UNDER_SAMPLE
+from program import Answer, contents, name_of, said, short
 
 PEAK_KILOBYTES = 4096
+# `scan` has room for what it keeps of 64 devices.
+SCAN_KILOBYTES = 8192
 SIZES = [MEGABYTE, 10 * MEGABYTE, 100 * MEGABYTE]
 # Ten times the input may take so many times as long, where times under the least one are noise. What
 # took longer is run again, since a machine that does other work too may have been slow at that moment.
@@ -83,20 +85,20 @@ def answer_of(program, words, source):
     unkept = os.open(os.devnull, os.O_WRONLY)
     status, counts, seconds = program.ended(program.start(words, [source, unkept, program.err]))
     os.close(unkept)
-    return Answer(status, b"", contents(program.err), counts, seconds)
+    return Answer(status, b"", said(words, status, contents(program.err)), counts, seconds)
 
 
-def has_little_peak(report, run, answer):
+def has_little_peak(report, run, answer, most=PEAK_KILOBYTES):
     peak = answer.counts.peak_kilobytes
-    report.holds(0 < peak < PEAK_KILOBYTES, run, f"a peak under {PEAK_KILOBYTES} KB", f"{peak} KB")
+    report.holds(0 < peak < most, run, f"a peak under {most} KB", f"{peak} KB")
 
 
-def named_answer(report, run, answer):
+def named_answer(report, run, answer, most):
     """Whether senseless input was answered as input is: done, or with refusals."""
     is_named = answer.status in (0, 1) and answer.err == b""
     report.holds(is_named, run, "status 0 or 1 and nothing on standard error",
                  (answer.status, answer.err))
-    has_little_peak(report, run, answer)
+    has_little_peak(report, run, answer, most)
 
 
 def too_long(program, report, run, words, source):
@@ -127,13 +129,14 @@ def senseless_inputs(program, report):
         for place, size in enumerate(sizes):
             source = program.scratch("senseless")
             os.write(source, make(size))
-            for words, _ in UNDER_SAMPLE + CONVERSIONS[:2] + IMPORTS:
+            for words, _ in UNDER_SAMPLE + CONVERSIONS[:2] + IMPORTS + SCANS:
                 run = f"{name_of(words)} on {kind}"
+                most = SCAN_KILOBYTES if words == ["scan"] else PEAK_KILOBYTES
                 so_far = seconds.setdefault(run, [])
                 least = float("inf")
                 for _ in range(TRIES):
                     answer = answer_of(program, words, source)
-                    named_answer(report, run, answer)
+                    named_answer(report, run, answer, most)
                     peak = max(peak, answer.counts.peak_kilobytes)
                     least = min(least, answer.seconds)
                     if least <= most_after(so_far):

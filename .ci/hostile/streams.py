@@ -4,7 +4,7 @@ import errno
 import os
 
 from inputs import (BAD_WORDS, BEHIND_A_PROFILE, CONVERSIONS, DESCRIPTIONS, FAULTY, FRONT, HELP, IMPORTS,
-                    SMALL_BUS, UNDER_SAMPLE, WITH_A_PROFILE, large_inputs)
+                    SCANS, SMALL_BUS, UNDER_SAMPLE, WITH_A_PROFILE, large_inputs)
 from profiles import LIMIT, all_commands
 from program import name_of, told
 
@@ -19,7 +19,7 @@ INTERRUPTED = [1, 2, 17]
 
 def small_runs():
     """Words, the front and the rows of each small run."""
-    runs = [(words, b"", rows) for words, rows in UNDER_SAMPLE + CONVERSIONS + IMPORTS]
+    runs = [(words, b"", rows) for words, rows in UNDER_SAMPLE + CONVERSIONS + IMPORTS + SCANS]
     return runs + [(words, FRONT, rows) for words, rows in BEHIND_A_PROFILE]
 
 
@@ -34,9 +34,9 @@ def rows_within(front, rows, length):
 
 def answers_to_rows(program, words, front, rows):
     """What is written for the first rows, for each number of them. The last line of `check` is not
-    among that, nor are the last objects of `json`, all that `stats` writes and that `import` has no
-    packets, since they are for an input that has ended."""
-    if words[0] == "stats":
+    among that, nor are the last objects of `json`, all that `stats` and `scan` write and that `import` has
+    no packets, since they are for an input that has ended."""
+    if words[0] in ("stats", "scan"):
         return [b""] * (len(rows) + 1)
     outs = [program.run(words, front + b"".join(rows[:count])).out for count in range(len(rows) + 1)]
     if words[0] == "check":
@@ -185,7 +185,7 @@ def large_streams(program, report):
 def failing_standard_error(program, report):
     """Where standard error fails, status and standard output stay what they are."""
     runs = [(words, FRONT + b"".join(rows), {}) for words, rows in BEHIND_A_PROFILE]
-    runs += [(words, b"".join(rows), faults) for words, rows in UNDER_SAMPLE + CONVERSIONS + IMPORTS
+    runs += [(words, b"".join(rows), faults) for words, rows in UNDER_SAMPLE + CONVERSIONS + IMPORTS + SCANS
              for faults in ({}, {"fail_read": 1}, {"fail_write": 1}, {"fail_allocation": 3})]
     runs += [(words, text, faults) for words, text in DESCRIPTIONS
              for faults in ({}, {"fail_write": 1}, {"fail_allocation": 3})]

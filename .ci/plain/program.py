@@ -2,7 +2,7 @@
 
 import re
 
-from . import devices, lines, log, notes, numbers, objects, packets, profiles, reading, stats
+from . import devices, draft, lines, log, notes, numbers, objects, packets, profiles, reading, stats
 from .numbers import Fault
 
 
@@ -14,6 +14,9 @@ def program(words, given):
     """The exit status, standard output and standard error."""
     if len(words) == 2 and words[0] in ("encode", "decode"):
         return convert(words[0], words[1], given)
+    if words == ["scan"]:
+        events, bad_token = reading.spelled(given)
+        return 0 if bad_token is None else 1, draft.draft(events, bad_token).encode(), b""
     tasks = {"show": show, "check": check, "build": build, "run": run}
     if words[:1] in (["json"], ["log"]):
         words, choice = flags(words)

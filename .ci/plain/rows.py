@@ -382,6 +382,7 @@ def rows():
     found = [(["show", "--sample"], b""), (["build", "--sample"], b"\n"), (["show"], b"")]
     for capture in lines_of(CAPTURES):
         found += [([task, "--sample"], capture) for task in ("show", "check", "json", "log", "stats")]
+        found.append((["scan"], capture))
     found += rows_with_flags("json") + rows_with_flags("log") + stats_rows()
     found += [(["build", "--sample"], line + b"\n") for line in lines_of(TRANSACTIONS)]
     found.append((["build", "--sample"], TRANSACTIONS.encode()))

@@ -84,7 +84,7 @@ from ._pieces import bytes_of as _bytes
 from ._pieces import pieces_of as _pieces_of
 from ._pieces import wrong_type as _wrong_type
 
-__version__ = "0.1.0"
+__version__ = "0.2.0"
 
 # (not `json`, which `from pmb import *` would put in the place of Python's own; and no module)
 __all__ = [
@@ -455,7 +455,7 @@ _Chosen = Tuple[Any, bytes, int]
 
 
 def version() -> str:
-    """The version of the library, as `0.1.0`.
+    """The version of the library, as `0.2.0`.
 
         >>> import pmb
         >>> pmb.version() == pmb.__version__

@@ -298,9 +298,9 @@ def _worker() -> str:
 
 
 def version() -> str:
-    """The name and the version of this machine's program."""
+    """The name and the version of this machine's program, and the digits of its sources."""
     said = subprocess.run([program(), "--version"], stdout=subprocess.PIPE, check=True).stdout
-    return said.decode("utf-8", "replace").strip()
+    return ", ".join(said.decode("utf-8", "replace").splitlines())
 
 
 @contextlib.contextmanager

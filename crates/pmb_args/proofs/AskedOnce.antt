@@ -1,7 +1,7 @@
 -- The words ask for one thing at most: the law `one_asking`, and for `parse_command`, `task_of`
 -- and `work_of`. One subcommand was met, with one name and one list of matches, which choose one thing
 -- (`Names`). A fault, help or the version ask for nothing else.
-use Rattle.std.proofs.Common.{◌≡◌, ◌⊎◌, Option, Some, List, [], ◌∷◌, codes, inl, inr, sym, ap, ◌∙◌, subst}
+use Rattle.std.proofs.Common.{◌≡◌, ◌⊎◌, Option, Some, List, [], ◌∷◌, codes, inl, inr, refl, sym, ap, ◌∙◌, subst}
 use Rattle.clap.specs.Words.{IsAmong, Kinds, Row, Text, subcommand_of}
 use Rattle.clap.specs.declared.error.kind.ErrorKind.{ErrorKind}
 use Rattle.pmb_args.specs.declared.exit_status.ExitStatus.{ExitStatus}
@@ -12,7 +12,7 @@ use Rattle.pmb_recorder.specs.Recorded.{Recorded}
 use Rattle.pmb_args.specs.Import.{ImportAsks}
 use Rattle.pmb_args.proofs.ImportOnce.{MakeOne, one_recorded}
 use Rattle.pmb_args.specs.Words.{AskToTell, IsTelling, help, version, faults_of, pmb_app}
-use Rattle.pmb_args.specs.Asked.{AskFor, Asking, AsksNothing, Convert, FlagsAsk, HasBadFormat, Import, NameAsks}
+use Rattle.pmb_args.specs.Asked.{AskFor, Asking, AsksNothing, Convert, FlagsAsk, HasBadFormat, Import, NameAsks, Scan}
 use Rattle.pmb_args.specs.Asked.{NamesNone, SubcommandAsks, UnderProfile, Wanted, converter, format_in, place_in}
 use Rattle.pmb_args.specs.Asked.{wanted_by}
 use Rattle.pmb_args.specs.Facts.{FactsCommand, stats, at_first, command_name}
@@ -22,6 +22,7 @@ use Rattle.pmb_args.specs.declared.facts_fault.FactsFault.{FactsFault}
 use Rattle.pmb_args.specs.declared.stats_fault.StatsFault.{StatsFault}
 use Rattle.pmb_args.proofs.Names.{converts_no_import, facts_want_none, is_named, one_direction, one_name, one_of_name}
 use Rattle.pmb_args.proofs.Names.{one_rows, other_name, stats_want_none, wants_no_import}
+use Rattle.pmb_args.proofs.Names.{converts_no_scan, scan_is_no_import, wants_no_scan}
 
 -- ---- one thing is asked for
 
@@ -52,24 +53,41 @@ one_asking one found (Convert direction format) (Convert other others) is also =
     ap (λ (d : Direction). Convert d format)
     (one_direction direction other (one_name found _ _ is.0 also.0 is.1 also.1))
     ∙ ap (Convert other) (is.2 ∙ ap format_in (one_rows found _ _ is.0 also.0 is.1 also.1) ∙ sym also.2)
+one_asking one found Scan Scan is also = refl
+one_asking one found Scan (Import recorded) is also =
+    absurd (scan_is_no_import (one_name found _ _ is.0 also.0 is.1 also.1))
+one_asking one found Scan (UnderProfile place wanted) is also =
+    absurd (wants_no_scan wanted (one_name found _ _ also.0 is.0 also.1 is.1))
+one_asking one found Scan (Convert direction format) is also =
+    absurd (converts_no_scan direction (one_name found _ _ also.0 is.0 also.1 is.1))
+one_asking one found (Import recorded) Scan is also =
+    absurd (scan_is_no_import (one_name found _ _ also.0 is.0 also.1 is.1))
+one_asking one found (UnderProfile place wanted) Scan is also =
+    absurd (wants_no_scan wanted (one_name found _ _ is.0 also.0 is.1 also.1))
+one_asking one found (Convert direction format) Scan is also =
+    absurd (converts_no_scan direction (one_name found _ _ is.0 also.0 is.1 also.1))
 
 -- ---- a subcommand that asks for nothing
 
--- where its name and its matches want nothing, it doesn't convert, and it isn't `import`, or its matches have a fault
+-- where its name and its matches want nothing, it doesn't convert, it isn't `scan`, and it isn't `import`, or its
+-- matches have a fault
 pub nothing_named : (found : Option (Text × List Row)) (name : Text) (rows : List Row) → found ≡ Some (name, rows)
     → ((wanted : Wanted) → ¬ (NameAsks name rows wanted)) → ((direction : Direction) → ¬ (name ≡ converter direction))
+    → ¬ (name ≡ codes "scan")
     → (name ≡ codes "import" → (recorded : Recorded) → ¬ (ImportAsks rows recorded)) → AsksNothing found
-nothing_named found name rows named none_wanted none_converts none_imports (Import recorded) is =
+nothing_named found name rows named none_wanted none_converts none_scans none_imports (Import recorded) is =
     none_imports (one_name found _ _ rows is.0 named is.1) recorded
     (subst (λ (rs : List Row). ImportAsks rs recorded) (one_rows found _ _ is.0 rows is.1 named) is.2)
-nothing_named found name rows named none_wanted none_converts none_imports (UnderProfile place wanted) is =
+nothing_named found name rows named none_wanted none_converts none_scans none_imports (UnderProfile place wanted) is =
     none_wanted wanted (
       one_name found _ _ rows is.0 named is.1,
       subst (λ (rs : List Row). FlagsAsk rs wanted)
           (one_rows found _ _ is.0 rows is.1 named) is.3,
     )
-nothing_named found name rows named none_wanted none_converts none_imports (Convert direction format) is =
+nothing_named found name rows named none_wanted none_converts none_scans none_imports (Convert direction format) is =
     none_converts direction (one_name found _ _ rows is.0 named is.1)
+nothing_named found name rows named none_wanted none_converts none_scans none_imports Scan is =
+    none_scans (one_name found _ _ rows is.0 named is.1)
 
 named_nothing : (command : FactsCommand) (found : Option (Text × List Row)) (rows : List Row)
     → found ≡ Some (command_name command, rows)
@@ -78,7 +96,8 @@ named_nothing command found rows is none =
     let named = is_named command (at_first command) in
     let wanted = wanted_by command (at_first command) in
     nothing_named found (command_name command) rows is none
-    (λ direction same. other_name wanted direction (named ∙ same)) (λ same. absurd (wants_no_import wanted (named ∙ same)))
+    (λ direction same. other_name wanted direction (named ∙ same)) (λ same. wants_no_scan wanted (named ∙ same))
+    (λ same. absurd (wants_no_import wanted (named ∙ same)))
 
 pub facts_nothing : (command : FactsCommand) (found : Option (Text × List Row)) (rows : List Row) (fault : FactsFault)
     → found ≡ Some (command_name command, rows) → AreWrong rows fault → AsksNothing found
@@ -94,7 +113,7 @@ pub import_nothing : (found : Option (Text × List Row)) (rows : List Row) → f
     → ((recorded : Recorded) → ¬ (ImportAsks rows recorded)) → AsksNothing found
 import_nothing found rows named none = nothing_named found (codes "import") rows named
     (λ wanted asks. wants_no_import wanted (sym asks.0)) (λ direction same. converts_no_import direction (sym same))
-    (λ same. none)
+    (λ same. scan_is_no_import (sym same)) (λ same. none)
 
 -- ---- a format that is none
 
@@ -108,6 +127,7 @@ bad_format one words asking ask bad = subst NamesNone
 pub names_none : (words : List Text) (asking : Asking) → AskFor words asking → NamesNone asking → HasBadFormat words
 names_none words (Import recorded) ask none = absurd none
 names_none words (UnderProfile place wanted) ask none = absurd none
+names_none words Scan ask none = absurd none
 names_none words (Convert direction format) ask none =
     record { direction = direction; format = format; asks = ask; fault = none.0; bad = none.1 }
 

@@ -14,7 +14,7 @@ use Rattle.clap.specs.Walk.{Held, Step, Walk, after_step, arg_by_index, finished
 use Rattle.clap.specs.Walk.{to_positional, value, walk, walk_from, walked, word_met}
 use Rattle.clap.specs.Words.{Kinds, Row, Rule, Shape, Text, subcommand_of}
 use Rattle.clap.proofs.OnLiterals.{clap_on_literals}
-use Rattle.pmb_args.specs.Asked.{AskFor, Convert, NeedsNoFlag, UnderProfile, Wanted, Show, Check, Json, Log, Stats}
+use Rattle.pmb_args.specs.Asked.{AskFor, Convert, NeedsNoFlag, Scan, UnderProfile, Wanted, Show, Check, Json, Log, Stats}
 use Rattle.pmb_args.specs.Asked.{Build, Run, Profile, converter, format_in, name_of, wanted_by}
 use Rattle.pmb_args.specs.Facts.{FactsCommand, FactsWanted, SpellDevices, json, log, stats, at_first, command_name}
 use Rattle.pmb_args.specs.Stats.{StatsWanted}
@@ -258,6 +258,12 @@ asks_unsampled name (Stats choice) plain =
 asks_unsampled name Build plain = record { no_fault = refl; asks = (_, refl, refl, tt) }
 asks_unsampled name Run plain = record { no_fault = refl; asks = (_, refl, refl, tt) }
 asks_unsampled name Profile plain = record { no_fault = refl; asks = (_, refl, refl, tt) }
+
+-- ---- a subcommand without any flag
+
+pub asks_to_scan : (name : Text) → AskFor (name ∷ codes "scan" ∷ []) Scan
+unfolding clap_on_literals
+asks_to_scan name = record { no_fault = refl; asks = (_, refl) }
 
 -- ---- help and the version
 

@@ -220,6 +220,36 @@ converts_no_import direction same = by direction (sym (converter_begins directio
     by Encode is = omega (arith, is)
     by Decode is = omega (arith, is)
 
+-- the same number is no greater one
+no_greater : (a b : ℕ) → a ≡ b → b ≤ a
+no_greater a b same = omega (arith, same)
+
+-- `scan` wants no profile, converts nothing, and is not `import`: the letter that tells it apart is that of `check`,
+-- whose first one is another
+pub wants_no_scan : (wanted : Wanted) → name_of wanted ≡ codes "scan" → ⊥
+wants_no_scan wanted same = by wanted same (sym (begins wanted) ∙ same_letter _ _ same)
+  where
+    by : (wanted : Wanted) → name_of wanted ≡ codes "scan" → letter_of wanted ≡ 99 → ⊥
+    by Show same is = omega (arith, is)
+    by Check same is = omega (arith, no_greater 99 115 (ap (λ (name : Text). get_or name 0 0) same))
+    by (Json choice) same is = omega (arith, is)
+    by (Log choice) same is = omega (arith, is)
+    by (Stats choice) same is = omega (arith, is)
+    by Build same is = omega (arith, is)
+    by Run same is = omega (arith, is)
+    by Profile same is = omega (arith, is)
+
+pub converts_no_scan : (direction : Direction) → converter direction ≡ codes "scan" → ⊥
+converts_no_scan direction same = by direction (sym (converter_begins direction)
+    ∙ same_letter _ _ same)
+  where
+    by : (direction : Direction) → converter_letter direction ≡ 99 → ⊥
+    by Encode is = omega (arith, is)
+    by Decode is = omega (arith, is)
+
+pub scan_is_no_import : codes "scan" ≡ codes "import" → ⊥
+scan_is_no_import same = omega (arith, no_greater 105 115 (ap (λ (name : Text). get_or name 0 0) (sym same)))
+
 -- ---- matches that want nothing
 
 -- `json`, `log` and `stats` by their names

@@ -43,17 +43,20 @@ wanted_of works.Run = Run
 wanted_of works.Profile = Profile
 
 -- A capture is made of a recording; or something is wanted under a profile, the sample or the one that comes first in
--- the input; or the numbers of lines are converted, in the format that a text names.
+-- the input; or the numbers of lines are converted, in the format that a text names; or a first profile is made of a
+-- capture.
 pub data Asking : Type 0 where
   Import : (recorded : Recorded) → Asking
   UnderProfile : (place : ProfilePlace) → (wanted : Wanted) → Asking
   Convert : (direction : Direction) → (format : Text) → Asking
+  Scan : Asking
 
 -- the same as it is kept
 abbrev pub asking_of : Task → Asking
 asking_of (tasks.Import recorder) = Import (recorded_of recorder)
 asking_of (tasks.UnderProfile place work) = UnderProfile place (wanted_of work)
 asking_of (tasks.Convert direction format) = Convert direction format.now
+asking_of tasks.Scan = Scan
 
 -- ---- the subcommand, and its matches
 
@@ -121,6 +124,7 @@ SubcommandAsks subcommand (UnderProfile place wanted) = (rows : List Row) × (su
     × (place ≡ place_in rows) × FlagsAsk rows wanted
 SubcommandAsks subcommand (Convert direction format) = (rows : List Row)
     × (subcommand ≡ Some (converter direction, rows)) × (format ≡ format_in rows)
+SubcommandAsks subcommand Scan = (rows : List Row) × (subcommand ≡ Some (codes "scan", rows))
 
 -- it asks for nothing
 abbrev pub AsksNothing : Option (Text × List Row) → Type 0
@@ -143,6 +147,7 @@ abbrev pub NamesNone : Asking → Type 0
 NamesNone (Import recorded) = ⊥
 NamesNone (UnderProfile place wanted) = ⊥
 NamesNone (Convert direction format) = (fault : FormatFault) × Names format (Err fault)
+NamesNone Scan = ⊥
 
 -- they ask for lines in a format, but its text names none
 pub record HasBadFormat (words : List Text) : Type 0 where

@@ -7,6 +7,7 @@ pub mod Stats
 pub mod Faults
 pub mod Import
 pub mod Asked
+pub mod Found
 pub mod Texts
 pub mod ExitStatus
 pub mod machine

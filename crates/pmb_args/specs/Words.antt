@@ -1,6 +1,6 @@
 -- The words that `pmb` takes, after its own name: `import SOURCE` with its flags, `show`, `check`, `build`, `run` and
--- `profile`, each with or without `--sample`, `json`, `log` and `stats` with their flags, `encode FORMAT` and
--- `decode FORMAT`.
+-- `profile`, each with or without `--sample`, `json`, `log` and `stats` with their flags, `scan`, `encode FORMAT`
+-- and `decode FORMAT`.
 use Rattle.std.specs.Prelude.{◌≡◌, ◌≢◌, ◌⊎◌, ◌++◌, true, Some, List, [], ◌∷◌, codes}
 use Rattle.clap.specs.Words.{App, IsAmong, Kinds, Rule, Text, fault_of, new_app, new_rule, with_rule, with_subcommand}
 use Rattle.clap.specs.declared.builder.action.ArgAction.{ArgAction}
@@ -81,12 +81,20 @@ capture_app =
     (sampled_app (codes "show")).top) (sampled_app (codes "check")).top) (facts_app (codes "json")).top)
     (facts_app (codes "log")).top) stats_app.top
 
+-- `scan`, which has no flags
+abbrev pub scan_app : App
+scan_app = new_app (codes "scan")
+
+-- `parts`, of which help is all that is here
+abbrev pub parts_app : App
+parts_app = new_app (codes "parts")
+
 -- and with all others
 abbrev pub pmb_app : App
 pmb_app =
-    with_subcommand (with_subcommand (with_subcommand (with_subcommand (with_subcommand capture_app
-    (sampled_app (codes "build")).top) (sampled_app (codes "run")).top) (sampled_app (codes "profile")).top)
-    (lines_app (codes "encode")).top) (lines_app (codes "decode")).top
+    with_subcommand (with_subcommand (with_subcommand (with_subcommand (with_subcommand (with_subcommand
+    (with_subcommand capture_app (sampled_app (codes "build")).top) (sampled_app (codes "run")).top)
+    (sampled_app (codes "profile")).top) scan_app.top) parts_app.top) (lines_app (codes "encode")).top) (lines_app (codes "decode")).top
 
 -- the kinds of fault that `clap` may find in the words; a call for help or for the version counts as one
 abbrev pub faults_of : List Text → Kinds

@@ -14,11 +14,7 @@ pub(crate) fn sample_flag<'a>(alloc: Global) -> Arg<'a>
     ensures rule { rule_of result ≡ sample }
     ensures local { result.global ≡ false }
 {
-    flag(
-        alloc,
-        "sample",
-        "Take the sample profile, and not one from the front of the input",
-    )
+    flag(alloc, "sample", "Use the built-in sample profile")
 }
 
 /// A flag.
@@ -58,8 +54,9 @@ pub(crate) fn source_word<'a>(alloc: Global) -> Arg<'a>
     required_word(
         alloc,
         "SOURCE",
-        "sigrok, saleae, beagle, kernel or smbus: the text of sigrok's I2C decoder, the table of \
-         Logic 2, the CSV of Data Center, the events of i2c or of smbus in a trace of Linux",
+        "sigrok, saleae, beagle, kernel or smbus: the text of sigrok's I2C\n\
+         decoder, the table of Logic 2, the CSV of Data Center, the events of\n\
+         i2c or of smbus in a trace of Linux",
     )
 }
 
@@ -71,9 +68,10 @@ pub(crate) fn format_word<'a>(alloc: Global) -> Arg<'a>
     required_word(
         alloc,
         "FORMAT",
-        "linear11, linear11:E, ulinear16:E, slinear16:E, half, direct:M,B,R, udirect:M,B,R, vid:TABLE \
-         or vout:HH: E is the exponent, M, B, R are DIRECT's coefficients, TABLE is vr11, vr12, vr13, \
-         imvp9, amd625mv or nvidia195mv, and HH VOUT_MODE in two hexadecimal digits",
+        "linear11, linear11:E, ulinear16:E, slinear16:E, half, direct:M,B,R,\n\
+         udirect:M,B,R, vid:TABLE or vout:HH: E is the exponent, M, B, R are\n\
+         DIRECT's coefficients, TABLE is vr11, vr12, vr13, imvp9, amd625mv or\n\
+         nvidia195mv, and HH VOUT_MODE in two hexadecimal digits",
     )
 }
 

@@ -9,7 +9,7 @@ ghost use Rattle.pmb_sigrok_line.specs.declared.rate.Rate.{Rate};
 ghost use Rattle.pmb_recorder.specs.Recorded.{OfKernel, OfSigrok};
 ghost use Rattle.pmb_recorder.specs.declared.source.Source.{Source};
 ghost use Rattle.pmb_args.specs.Import.{recorded_by, source_word};
-ghost use Rattle.pmb_args.specs.Asked.{AskFor, AskForNothing, Asking, Convert, HasBadFormat, Import, NamesNone, NeedsNoFlag, Stats, UnderProfile, Wanted, converter, name_of, wanted_by};
+ghost use Rattle.pmb_args.specs.Asked.{AskFor, AskForNothing, Asking, Convert, HasBadFormat, Import, NamesNone, NeedsNoFlag, Scan, Stats, UnderProfile, Wanted, converter, name_of, wanted_by};
 ghost use Rattle.clap.specs.declared.error.kind.ErrorKind.TheVariants.{DisplayHelp, InvalidSubcommand};
 ghost use Rattle.pmb_stats_counts.specs.declared.fail.Fail.{Fail};
 ghost use Rattle.pmb_args.specs.Facts.{FactsCommand, SpellsAddress, SpellsDigits, at_first, command_name, json, stats};
@@ -25,7 +25,7 @@ ghost use Rattle.pmb_args.specs.declared.profile_place.ProfilePlace.TheVariants.
 use pmb_recorder::laws::one_recorder;
 
 /// The words `pmb show`, `pmb check`, `pmb json`, `pmb log`, `pmb stats`, `pmb build`, `pmb run` and
-/// `pmb profile`, each with `--sample` or without it, `pmb encode FORMAT` and `pmb decode FORMAT` have
+/// `pmb profile`, each with `--sample` or without it, `pmb scan`, `pmb encode FORMAT` and `pmb decode FORMAT` have
 /// no fault of `clap`'s and ask for just that, where FORMAT does not begin with `-`; `pmb --help` and `pmb --version` call for
 /// a text about `pmb`. Of `pmb help` and whatever words after it `clap`'s definition says that they
 /// may call for help or be refused.
@@ -33,6 +33,7 @@ pub fn words_ask()
     ensures sampled { (name : Text) (wanted : Wanted) → NeedsNoFlag wanted → AskFor (name ∷ name_of wanted ∷ codes "--sample" ∷ []) (UnderProfile Sample wanted) }
     ensures unsampled { (name : Text) (wanted : Wanted) → NeedsNoFlag wanted → AskFor (name ∷ name_of wanted ∷ []) (UnderProfile Front wanted) }
     ensures converts { (name format : Text) (direction : Direction) → (IsFlag format → ⊥) → AskFor (name ∷ converter direction ∷ format ∷ []) (Convert direction format) }
+    ensures scans { (name : Text) → AskFor (name ∷ codes "scan" ∷ []) Scan }
     ensures help { (name : Text) → AskToTell (name ∷ codes "--help" ∷ []) }
     ensures version { (name : Text) → AskToTell (name ∷ codes "--version" ∷ []) }
     ensures help_words { (name : Text) (words : List Text) → faults_of (name ∷ codes "help" ∷ words) ≡ DisplayHelp ∷ InvalidSubcommand ∷ [] }

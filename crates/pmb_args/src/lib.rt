@@ -33,6 +33,7 @@ mod subcommand;
 mod tasks;
 mod without_words;
 mod words;
+mod words_found;
 
 pub use direction::Direction;
 pub use exit_status::{ExitStatus, ended, report, report_format, report_nothing, report_text};
@@ -41,5 +42,6 @@ pub use fail_list::FailList;
 pub use profile_place::ProfilePlace;
 pub use stats_arguments::{StatsArguments, StatsForm};
 pub use subcommand::Subcommand;
-pub use tasks::{Task, parse_command};
+pub use tasks::{Task, find_task, parse_command};
 pub use without_words::no_words;
+pub use words_found::WordsFound;

@@ -6,6 +6,7 @@ ghost use Rattle.std.specs.Prelude.{◌≡◌, ◌⊎◌, IfErr, IfOk, MatchOpti
 ghost use Rattle.clap.specs.Words.{found_of, rows_of, subcommand_rows_of};
 ghost use Rattle.pmb_args.specs.Texts.{WroteText};
 ghost use Rattle.pmb_args.specs.Asked.{AskFor, AskForNothing, Asking, AsksNothing, NameAsks, SubcommandAsks, Wanted, asking_of, converter, place_in, wanted_of};
+ghost use Rattle.pmb_args.specs.Found.{ComeTo};
 ghost use Rattle.pmb_args.specs.declared.direction.Direction.{Direction};
 ghost use Rattle.pmb_args.specs.Words.{AreRefused, AskToTell, MayBeRefused};
 
@@ -21,11 +22,13 @@ use crate::stats_fault::{StatsFault, report_stats};
 use crate::stats_words::read_stats;
 use crate::subcommand::Subcommand;
 use crate::words::{parse, report_words};
+use crate::words_found::WordsFound;
 use clap::ArgMatches;
+use clap::error::ErrorKind;
 use pmb_io::Sink;
 use pmb_recorder::Recorder;
 use pmb_recorder::laws::one_recorder;
-use std::alloc::Global;
+use std::alloc::{AllocError, Global};
 use std::convert::AsStr;
 
 /// The most digits after the point of a number, where `log` has no `--digits`.
@@ -40,6 +43,8 @@ pub enum Task<'a> {
     UnderProfile(ProfilePlace, Subcommand),
     /// Lines are converted in the format that a text names.
     Convert(Direction, &'a str),
+    /// A first profile is made of a capture.
+    Scan,
 }
 
 // Why there is nothing to be done.
@@ -99,6 +104,25 @@ pub fn parse_command<'a, S: AsStr, W: Sink, E: Sink>(
     }
 }
 
+/// What the words come to, the program's own name first, without a word about it.
+///
+/// # Errors
+///
+/// There was no memory.
+pub fn find_task<S: AsStr>(alloc: Global, words: &[S]) -> Result<WordsFound, AllocError>
+    ensures { IfOk result (ComeTo (map S.text words.now)) }
+{
+    let matches = match parse(alloc, words) {
+        Ok(matches) => matches,
+        Err(error) if error.kind() == ErrorKind::OutOfMemory => return Err(AllocError),
+        Err(_) => return Ok(WordsFound::Fault),
+    };
+    match task_of(&matches) {
+        Ok(_) => Ok(WordsFound::Task),
+        Err(_) => Ok(WordsFound::Nothing),
+    }
+}
+
 // What the words ask for, by the subcommand among them.
 fn task_of<'a>(matches: &ArgMatches<'a>) -> Result<Task<'a>, NoTask>
     ensures { MatchResult result (λ task. SubcommandAsks (subcommand_rows_of matches.now) (asking_of task)) (λ _. AsksNothing (subcommand_rows_of matches.now)) }
@@ -112,6 +136,9 @@ fn task_of<'a>(matches: &ArgMatches<'a>) -> Result<Task<'a>, NoTask>
             Ok(recorder) => Ok(Task::Import(recorder)),
             Err(fault) => Err(NoTask::Import(fault)),
         };
+    }
+    if name == "scan" {
+        return Ok(Task::Scan);
     }
     if let Some(direction) = direction_of(name) {
         let format = arguments.get_str("FORMAT").unwrap_or("");

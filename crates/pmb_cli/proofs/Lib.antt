@@ -8,3 +8,4 @@ pub mod Memory
 pub mod Working
 pub mod Unread
 mod JsonText
+mod ScanStatuses

@@ -7,7 +7,7 @@ use Rattle.pmb_io.specs.declared.fault.ToolFault.{ToolFault}
 use Rattle.pmb_io.specs.declared.fault.ToolFault.TheVariants.{Read, Write, TooManyReads, ProfileTooLong, Memory}
 use Rattle.pmb_args.specs.ExitStatus.{status_of}
 use Rattle.pmb_args.specs.declared.exit_status.ExitStatus.TheVariants.{BadArguments, IoFailed, NoMemory}
-use Rattle.pmb_args.specs.Asked.{Asking, Convert, Import, UnderProfile}
+use Rattle.pmb_args.specs.Asked.{Asking, Convert, Import, Scan, UnderProfile}
 use Rattle.pmb_args.specs.declared.profile_place.ProfilePlace.TheVariants.{Sample, Front}
 use Rattle.pmb_cli.specs.Memory.{ReadNoRest, ReadWithoutMemory}
 
@@ -26,6 +26,7 @@ module _ {R : Type 0} (told : R → ReaderTold) where
   unread (UnderProfile Front wanted) old new same = inl same
   unread (Convert direction format) old new same = same
   unread (Import recorded) old new same = same
+  unread Scan old new same = tt
 
   -- where the front was read, and nothing after it
   pub front_alone : (old mid new : R) (parts : Parts) → ReadFront told old mid parts

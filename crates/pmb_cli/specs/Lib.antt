@@ -1,3 +1,4 @@
+pub mod Drafts
 pub mod Facts
 pub mod JsonOutput
 pub mod Memory

@@ -2,7 +2,7 @@
 use Rattle.std.specs.Prelude.{◌≡◌, ◌⊎◌, true}
 use Rattle.pmb_preamble.specs.Front.{Parts, ReadFront, ReadSome}
 use Rattle.pmb_io.specs.Told.{ReaderTold}
-use Rattle.pmb_args.specs.Asked.{Asking, Convert, Import, UnderProfile}
+use Rattle.pmb_args.specs.Asked.{Asking, Convert, Import, Scan, UnderProfile}
 use Rattle.pmb_args.specs.declared.profile_place.ProfilePlace.TheVariants.{Sample, Front}
 
 module _ {R : Type 0} (told : R → ReaderTold) where
@@ -22,3 +22,5 @@ module _ {R : Type 0} (told : R → ReaderTold) where
   ReadWithoutMemory (UnderProfile Front wanted) old new = (new ≡ old) ⊎ ReadNoRest old new
   ReadWithoutMemory (Convert direction format) old new = new ≡ old
   ReadWithoutMemory (Import recorded) old new = new ≡ old
+  -- (of a first profile memory may be lacking for the text, when the capture has been read)
+  ReadWithoutMemory Scan old new = Unit {0}

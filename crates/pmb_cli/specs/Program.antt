@@ -13,7 +13,7 @@ use Rattle.pmb_args.specs.Words.{AreRefused, AskToTell, MayBeRefused, faults_of}
 use Rattle.pmb_cli.specs.JsonOutput.{TellsBytes, WroteJson}
 use Rattle.pmb_cli.specs.Profiles.{HasBadProfile}
 use Rattle.pmb_cli.specs.Statuses.{StatusTells}
-use Rattle.pmb_cli.specs.Tasks.{DidTask, IsUnderFront}
+use Rattle.pmb_cli.specs.Tasks.{DidTask, IsScan, IsUnderFront}
 
 -- By its words, by the reader, standard output and standard error, before and after, and by the status.
 pub record RanProgram {R W E : Type 0} (reader_told : R → ReaderTold) (out_told : W → WriterTold)
@@ -41,10 +41,11 @@ pub record RanProgram {R W E : Type 0} (reader_told : R → ReaderTold) (out_tol
   -- So are words without a fault that ask for nothing.
   pub nothing : AskForNothing words → (status ≡ BadArguments) ⊎ (status ≡ NoMemory)
   pub nothing_unread : AskForNothing words → new.0 ≡ old.0
-  -- It is BadArguments only for these, for a FORMAT that names none, and for a profile that is too long or has a fault.
+  -- It is BadArguments only for these, for a FORMAT that names none, for a profile that is too long or has a fault, and
+  -- where a first profile is asked for and there is none.
   pub bad : status ≡ BadArguments → (MayBeRefused words ⊎ AskForNothing words)
-      ⊎ (HasBadFormat words ⊎ ((asking : Asking) × AskFor words asking × IsUnderFront asking
-      × HasBadProfile reader_told old.0 new.0))
+      ⊎ (HasBadFormat words ⊎ ((asking : Asking) × AskFor words asking
+      × ((IsUnderFront asking × HasBadProfile reader_told old.0 new.0) ⊎ IsScan asking)))
   -- Whatever the words, the status says what failed, and how many reads were made; standard error
   -- gets some text where anything went wrong, and else stays as it is.
   pub tells : StatusTells reader_told out_told (old.0, old.1) (new.0, new.1) status

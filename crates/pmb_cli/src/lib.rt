@@ -33,4 +33,5 @@ pub use pmb_profile_text::describe;
 pub use pmb_run::run;
 pub use pmb_telling::{AfterBadToken, tell};
 pub use pmb_unknown_start::Start;
+pub use profile_fault::report_board;
 pub use program::{no_words, tool};

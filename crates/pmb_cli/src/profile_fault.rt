@@ -2,6 +2,7 @@
 //!
 //! Its rows: `tests/rows/hints.txt`, `tests/rows/preambles.txt`.
 
+ghost use Rattle.std.specs.Prelude.{◌≡◌, ◌⊎◌};
 ghost use Rattle.pmb_cli.specs.ProfileFault.{IsReported};
 
 use pmb_args::{ExitStatus, report, report_text};
@@ -19,6 +20,17 @@ pub(crate) fn report_profile<E: Sink>(fault: ProfileFault, err: &mut E) -> ExitS
     }
     report_text(fault_text(fault).as_str(), err);
     ExitStatus::BadArguments
+}
+
+/// Reports on `err` what is wrong with the profile of a board, and where, and returns the exit status.
+pub fn report_board<E: Sink>(fault: ProfileFault, err: &mut E) -> u8
+    ensures { (result ≡ 2) ⊎ (result ≡ 4) }
+{
+    if report_profile(fault, err).code() == 4 {
+        4
+    } else {
+        2
+    }
 }
 
 /// Reports the same of the profile in `text`, and then the lines that help, all in one write.

@@ -5,14 +5,17 @@
 ghost use Rattle.std.specs.Prelude.{◌≡◌, ◌≢◌};
 ghost use Rattle.pmb_cli.specs.Tasks.{DidTask, conversion_of};
 ghost use Rattle.pmb_recorder.specs.Recorded.{recorded_of};
-ghost use Rattle.pmb_args.specs.Asked.{Convert, Import, asking_of};
+ghost use Rattle.pmb_args.specs.Asked.{Convert, Import, Scan, asking_of};
+ghost use Rattle.pmb_args.specs.ExitStatus.{EndedWell, Failed, IsTold};
+ghost use Rattle.pmb_cli.specs.Drafts.{draft_status};
 
 use crate::works::{run_under_front, run_under_sample};
-use pmb_args::{Direction, ExitStatus, ProfilePlace, Task, ended, report_format};
+use pmb_args::{Direction, ExitStatus, ProfilePlace, Task, ended, report_format, report_text};
 use pmb_convert::laws::one_format;
 use pmb_convert::{Conversion, NumberFormat, convert_lines, parse_format};
+use pmb_draft::{DraftFault, write_draft};
 use pmb_import::{Recorder, import};
-use pmb_io::{Sink, Source};
+use pmb_io::{Sink, Source, Tally};
 use pmb_table::SAMPLE;
 use std::alloc::Global;
 
@@ -33,6 +36,7 @@ pub(crate) fn run_task<R: Source, W: Sink, E: Sink>(
         },
         Task::Convert(direction, format) => run_lines(direction, format, reader, out, err),
         Task::Import(recorder) => run_import(recorder, reader, out, err),
+        Task::Scan => run_scan(alloc, reader, out, err),
     }
 }
 
@@ -48,6 +52,42 @@ fn run_import<R: Source, W: Sink, E: Sink>(
     ensures needless { result ≢ ExitStatus.NoMemory }
 {
     ended(import(recorder, &[], reader, out), err)
+}
+
+/// Writes the first profile of the capture that the reader gives, and returns the exit status.
+fn run_scan<R: Source, W: Sink, E: Sink>(
+    alloc: Global,
+    reader: &mut R,
+    out: &mut W,
+    err: &mut E,
+) -> ExitStatus
+    ensures { DidTask R.told W.told E.told SAMPLE.now Scan (reader.old, out.old, err.old) (reader.new, out.new, err.new) result }
+{
+    let drafted = write_draft(alloc, &[], reader, out);
+    end_draft(drafted, err)
+}
+
+/// The status of a first profile that was made. A fault is reported on `err`.
+fn end_draft<E: Sink>(drafted: Result<Tally, DraftFault>, err: &mut E) -> ExitStatus
+    ensures status { result ≡ draft_status drafted }
+    ensures quiet { EndedWell result → err.new ≡ err.old }
+    ensures err_told { Failed result → IsTold (E.told err.old) (E.told err.new) }
+{
+    match drafted {
+        Ok(tally) => ended(Ok(tally), err),
+        Err(DraftFault::Tool(fault)) => ended(Err(fault), err),
+        Err(DraftFault::TooLong) => {
+            report_text("scan: profile too long\n", err);
+            ExitStatus::BadArguments
+        }
+        Err(DraftFault::Refused) => {
+            report_text(
+                "scan: the profile is not accepted: please report this\n",
+                err,
+            );
+            ExitStatus::BadArguments
+        }
+    }
 }
 
 /// Converts the lines that the reader gives in the format that a text names, and returns the exit

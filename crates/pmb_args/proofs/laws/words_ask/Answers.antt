@@ -1,4 +1,4 @@
-use Rattle.pmb_args.proofs.AskedWords.{asks_for_help, asks_for_version, asks_sampled, asks_to_convert, asks_unsampled}
+use Rattle.pmb_args.proofs.AskedWords.{asks_for_help, asks_for_version, asks_sampled, asks_to_convert, asks_to_scan, asks_unsampled}
 use Rattle.pmb_args.proofs.AskedWords.{has_help_fault}
 use Rattle.pmb_args.proofs.laws.words_ask.Goals as goal
 
@@ -10,6 +10,9 @@ returns-clause-unsampled c = asks_unsampled
 
 pub returns-clause-converts : goal.returns-clause-converts
 returns-clause-converts c = asks_to_convert
+
+pub returns-clause-scans : goal.returns-clause-scans
+returns-clause-scans c = asks_to_scan
 
 pub returns-clause-help : goal.returns-clause-help
 returns-clause-help c = asks_for_help

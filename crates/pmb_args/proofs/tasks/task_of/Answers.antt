@@ -23,6 +23,14 @@ returns-in-Err c =
     import_nothing _ rows (met ∙ ap (λ (n : Text). Some (n, rows)) named)
     (fault_asks_for_none c.one_recorder.ensures.no_fault rows c.in-Err.fault c.in-Err.ensures)
 
+-- a first profile is made
+pub returns-then-eq-2 : goal.returns-then-eq-2
+returns-then-eq-2 c =
+    let rows = rows_of (found_of c.in-Some.arguments.now) in
+    let met = entered_rows _ c.in-Some.name.now rows c.in-Some.ensures.name c.in-Some.ensures.rows in
+    let named = is_text c.in-Some.name.now (codes "scan") c.eq-2.result c.eq-2.ensures c.if-eq-2.true in
+    (rows, met ∙ ap (λ (n : Text). Some (n, rows)) named)
+
 -- the subcommand converts
 pub returns-in-Some-direction_of : goal.returns-in-Some-direction_of
 returns-in-Some-direction_of c =
@@ -51,4 +59,5 @@ returns-in-Err-work_of c =
     let other = is_no_text c.in-Some.name.now (codes "import") c.eq.result c.eq.ensures c.if-eq.false in
     nothing_named _ c.in-Some.name.now rows (entered_rows _ c.in-Some.name.now rows c.in-Some.ensures.name
     c.in-Some.ensures.rows) c.in-Err-work_of.ensures c.in_default-direction_of.ensures
+    (is_no_text c.in-Some.name.now (codes "scan") c.eq-2.result c.eq-2.ensures c.if-eq-2.false)
     (λ named. absurd (other named))

@@ -57,7 +57,7 @@ returns-in-Ok-clause-ran g c =
         nothing_unread = λ none. absurd (one.something words asking ask none);
         bad = λ bad. elim (did.bad bad) [
           | inl none ↦ inr (inl (one.names_none words asking ask none))
-          | inr fault ↦ inr (inr (asking, ask, fault.0, fault.1))
+          | inr fault ↦ inr (inr (asking, ask, fault))
         ];
         tells = did.tells;
         err_text = did.err_text;

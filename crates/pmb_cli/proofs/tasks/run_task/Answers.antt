@@ -39,6 +39,13 @@ returns-in-Convert g c =
     (c.run_lines.new.reader, c.run_lines.new.out, c.run_lines.new.err) c.run_lines.result)
     (sym c.in-Convert.is) c.run_lines.ensures.did
 
+pub returns-in-Scan : goal.returns-in-Scan
+returns-in-Scan g c =
+    subst (λ (t : Task). DidTask g.R.Source.told g.W.Sink.told g.E.Sink.told SAMPLE.now (asking_of t)
+    (c.args.reader.now, c.args.out.now, c.args.err.now)
+    (c.run_scan.new.reader, c.run_scan.new.out, c.run_scan.new.err) c.run_scan.result)
+    (sym c.in-Scan.is) c.run_scan.ensures
+
 pub returns-in-Import : goal.returns-in-Import
 returns-in-Import g c =
     subst (λ (t : Task). DidTask g.R.Source.told g.W.Sink.told g.E.Sink.told SAMPLE.now (asking_of t)

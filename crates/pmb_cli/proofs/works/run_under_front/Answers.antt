@@ -99,7 +99,7 @@ returns g c =
       did = does_none _ _ _ _ _ c.report_fault.ensures.refused;
       tells = refused_tells g.R.Source.told g.W.Sink.told _ _ _ _ c.report_fault.ensures.refused
           (c.in-Ok.ensures.no_read (λ is. cc)) (reads_of_front _ _ c.in-Ok.ensures.reads);
-      bad = λ bad. inr (
+      bad = λ bad. inr (inl (
         refl,
         inr (record {
           parts = c.in-Ok.front;
@@ -112,7 +112,7 @@ returns g c =
             | inr says ↦ subst (λ text. SaysBus text (Err fault)) c.profile.ensures says
           ];
         }),
-      );
+      ));
       bad_format = λ none. absurd none;
       memory = λ memory. inr (front_alone g.R.Source.told _ c.front.new.reader _ c.in-Ok.front c.in-Ok.ensures.ok
           c.in-Ok.ensures.mark_not_ended refl);
@@ -148,11 +148,11 @@ returns-in-Err g c =
         );
         reads = reads_of_front _ _ c.in-Err.ensures.reads;
       };
-      bad = λ bad. inr (
+      bad = λ bad. inr (inl (
         refl,
         inl (c.in-Err.ensures.too_long
             (ap (λ (f : ToolFault). Err f) (is_too_long fault (sym c.report.ensures.status ∙ bad)))),
-      );
+      ));
       bad_format = λ none. absurd none;
       memory = λ memory. inr (inl (c.in-Err.ensures.before_memory
           (ap (λ (f : ToolFault). Err f) (is_memory fault (sym c.report.ensures.status ∙ memory)))));

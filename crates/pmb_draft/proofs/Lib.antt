@@ -1,0 +1,11 @@
+pub mod Splits
+pub mod LegStarts
+pub mod Acking
+pub mod Coding
+pub mod Seeing
+pub mod Beginning
+pub mod Taking
+pub mod Lines
+pub mod Continuing
+pub mod Drafting
+pub mod Texts

@@ -1,0 +1,5 @@
+pub mod CodeSet
+pub mod LegStart
+pub mod Seen
+pub mod Draft
+pub mod Writing

@@ -1,0 +1,12 @@
+pub mod Words
+pub mod Contradictions
+pub mod Headings
+pub mod Known
+pub mod Joined
+pub mod Faults
+pub mod Head
+pub mod Values
+pub mod Over
+pub mod Each
+pub mod Program
+pub mod machine
