@@ -4,4 +4,5 @@ pub mod Errs
 pub mod Lists
 pub mod Reading
 pub mod Ran
+pub mod Passed
 pub mod Statuses

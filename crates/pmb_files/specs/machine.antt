@@ -5,3 +5,4 @@ pub mod Head
 pub mod FailsHead
 pub mod Unannounced
 pub mod Contradicts
+pub mod Said

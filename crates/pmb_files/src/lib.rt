@@ -16,6 +16,7 @@ mod joined;
 mod opener;
 mod program;
 mod run;
+mod said;
 mod values;
 mod words;
 

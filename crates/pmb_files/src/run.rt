@@ -7,10 +7,12 @@ ghost use Rattle.pmb_args.specs.ExitStatus.{IsTold, OfCode};
 ghost use Rattle.pmb_explained.specs.Grown.{Grew};
 ghost use Rattle.pmb_explained.specs.Kept.{kept_told};
 ghost use Rattle.pmb_files.specs.Over.{RanOver};
+ghost use Rattle.pmb_files.specs.machine.Said.{said_text, said_told};
 
 use crate::faults::{failure_line, named_line, named_lines};
 use crate::joined::{Joined, ReadFailure};
 use crate::opener::Opener;
+use crate::said::Said;
 use pmb_args::report;
 use pmb_cli::tool;
 use pmb_explained::{KeptInput, KeptOutput, write_text};
@@ -50,20 +52,19 @@ pub(crate) fn run_over<F: Opener, W: Sink, E: Sink>(
     let joined = Joined::new(files, head, names);
     let input = Io::new(joined);
     let mut reader = KeptInput::new(alloc, input, out.limit());
-    let mut said = Io::new(Vec::new(alloc));
-    let code = tool(alloc, words, &mut reader, out, &mut said);
-    let text = said.into_inner();
+    let mut said = Said::new(alloc);
+    let ended = tool(alloc, words, &mut reader, out, &mut said);
     let (read, kept) = reader.into_parts();
     let failure = read.into_inner().failure();
     let name = named(naming, names);
-    tell(alloc, code, text.as_slice(), name, failure, err);
+    let code = tell(alloc, ended, &said, name, failure, err);
     explain(
         alloc,
         words,
         code,
         kept.as_slice(),
         out,
-        text.as_slice(),
+        said.text(),
         name,
         err,
     );
@@ -96,21 +97,35 @@ fn explain<W, E: Sink>(
     }
 }
 
-// Says on `err` what the tool said, if its exit status is that of a fault.
+// Says on `err` what the tool said, if its exit status is that of a fault, and returns that of the run. Where there
+// was no memory for it, that is the fault, unless a read or a write failed.
 fn tell<E: Sink>(
     alloc: Global,
     code: u8,
-    text: &[u8],
+    said: &Said,
     name: Option<&str>,
     failure: Option<ReadFailure<'_>>,
     err: &mut E,
-)
-    ensures quiet { code < 2 → err.new ≡ err.old }
+) -> u8
+    requires said { 2 ≤ code → (said_told said.now).failures ≡ 0 → said_text said.now ≢ [] }
+    ensures quiet { code < 2 → (err.new ≡ err.old) × (result ≡ code) }
     ensures told { 2 ≤ code → IsTold (E.told err.old) (E.told err.new) }
+    ensures kept { code ≢ 2 ⊎ (said_told said.now).failures ≡ 0 → code ≤ 4 → result ≡ code }
+    ensures no_memory { code ≡ 2 → (said_told said.now).failures ≢ 0 → result ≡ 4 }
 {
-    if code >= 2 {
-        say(alloc, text, name, failure, err);
+    if code < 2 {
+        return code;
     }
+    if said.is_whole() {
+        say(alloc, said.text(), name, failure, err);
+        return code;
+    }
+    let fault = match (code, failure) {
+        (3, Some(_)) => ToolFault::Read,
+        (3, None) => ToolFault::Write,
+        _ => ToolFault::Memory,
+    };
+    report(fault, err).code()
 }
 
 // The file that a fault is reported of.
@@ -130,6 +145,7 @@ fn say<E: Sink>(
     failure: Option<ReadFailure<'_>>,
     err: &mut E,
 )
+    requires { text.now ≢ [] }
     ensures { IsTold (E.told err.old) (E.told err.new) }
 {
     let line = match (failure, name) {
@@ -139,19 +155,8 @@ fn say<E: Sink>(
         (_, Some(name)) => named_line(alloc, name, text),
         _ => Err(AllocError),
     };
-    match line {
-        Ok(line) => put(line.as_slice(), err),
-        Err(_) => put(text, err),
-    }
-}
-
-// Writes a text on `err`. Where it is empty, there was no memory for it.
-fn put<E: Sink>(text: &[u8], err: &mut E)
-    ensures { IsTold (E.told err.old) (E.told err.new) }
-{
-    if text.is_empty() {
-        report(ToolFault::Memory, err);
-    } else {
-        let _ = err.write_all(text);
-    }
+    let _ = match line {
+        Ok(line) => err.write_all(line.as_slice()),
+        Err(_) => err.write_all(text),
+    };
 }
