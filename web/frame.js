@@ -105,7 +105,7 @@ function helpDialog() {
         make(
             'p', {},
             make('span', { text: 'Everything is read by the program pmb inside this page, as its commands ' }),
-            make('code', { text: 'import, json, log, stats, run, encode, decode, build' }),
+            make('code', { text: 'import, scan, json, log, stats, run, encode, decode, build' }),
             make('span', { text: ' do. Nothing is loaded or sent.' }),
         ));
     dialog.addEventListener('click', (event) => { if (event.target === dialog) dialog.close(); });

@@ -77,7 +77,8 @@ class Header {
         this.recording.hidden = recording === null;
         if (recording) this.recordingName.textContent = `${recording.name} · ${SOURCES[recording.source]}`;
         this.profile.hidden = profile === null;
-        this.profileName.textContent = profile ? profile.name : '';
+        this.profileName.textContent = profile === null ? '' : profile.origin === 'scan' ? 'made by pmb scan' : profile.name;
+        this.profile.title = profile === null ? '' : `The profile that it is read with: ${profile.name}, ${originText(profile)}`;
         document.title = recording ? `${recording.name} · pmb` : 'pmb: what happened on the bus';
     }
 

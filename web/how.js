@@ -45,11 +45,15 @@ class How {
         this.element.replaceChildren(...rows);
     }
 
+    // The same as lines for a shell. A recording that begins with its profile is read with that.
     command(recording, profile, words) {
         const name = quote(recording.name);
-        const read = recording.source === 'capture' ? `cat ${name}` : `pmb ${recording.words.join(' ')} < ${name}`;
-        const log = ['log', ...words].join(' ');
-        return `(cat ${quote(profile?.name ?? 'profile.toml')}; echo; echo %%; ${read}) | pmb ${log}`;
+        const isCapture = recording.source === 'capture';
+        const over = (command) => (isCapture ? `pmb ${command} ${name}` : `pmb ${recording.words.join(' ')} ${name} | pmb ${command}`);
+        if (profile?.origin === 'capture' && isCapture) return over(['log', ...words].join(' '));
+        const isScanned = profile === null || profile.origin === 'scan';
+        const log = over(['log', '-p', quote(profile?.name ?? 'scan.toml'), ...words].join(' '));
+        return isScanned ? `${over('scan')} > scan.toml\n${log}` : log;
     }
 
     sources(recording) {
@@ -91,5 +95,5 @@ class How {
     }
 }
 
-// A name as a word of a shell.
-const quote = (name) => (/^[\w.+-]+$/.test(name) ? name : `'${name.replace(/'/g, "'\\''")}'`);
+// The name of a file as a word of a shell.
+const quote = (name) => (/^[\w.+][\w.+-]*$/.test(name) ? name : `'${name.replace(/^-/, './-').replace(/'/g, "'\\''")}'`);

@@ -91,7 +91,6 @@ class Lines {
 const json = new Lines();
 const log = new Lines();
 const capture = new Lines();
-const addresses = new Map(); // address: how often it was acknowledged
 const lost = []; // what a recording lacks, by its kind
 const columns = {
     device: new Column(Uint8Array),
@@ -101,49 +100,29 @@ const columns = {
     series: new Column(Uint16Array),
 };
 
-// ---- the text of the capture: the addresses in it, and what a recording lacks
+// ---- the text of the capture: what a recording lacks stands in its comments
 
-const text = {
-    inLine: 'start', address: 0, line: '', after: false, byte: -1, digits: 0, comment: false, start: true,
-};
+const comment = { open: false, line: '' };
 
-// Looks at bytes of the capture: each START's address byte with its ACK, and the comments of `pmb import`.
+// Looks at bytes of the capture: the comments of `pmb import`, and the number of the line of each.
 function takeCapture(bytes) {
     const { length } = bytes;
     for (let i = 0; i < length; i++) {
         const byte = bytes[i];
-        if (text.comment) {
+        if (comment.open) {
             const end = bytes.indexOf(LF, i);
             const to = end < 0 ? length : end;
-            if (text.line.length < 200) text.line += latin1.decode(bytes.subarray(i, Math.min(to, i + 200)));
+            if (comment.line.length < 200) comment.line += latin1.decode(bytes.subarray(i, Math.min(to, i + 200)));
             i = to;
             if (end < 0) break;
-            takeComment(text.line, capture.scanned + 1);
-            text.comment = false;
+            takeComment(comment.line, capture.scanned + 1);
+            comment.open = false;
             capture.scanned++;
-            continue;
-        }
-        if (byte === LF) {
+        } else if (byte === LF) {
             capture.scanned++;
         } else if (byte === 35) {
-            text.comment = true;
-            text.line = '';
-        } else if (byte === 83) {
-            text.after = true;
-            text.byte = -1;
-            text.digits = 0;
-        } else if (text.after) {
-            if (byte === 65 && text.digits === 2) {
-                // (an A behind two digits and a blank is an ACK; two digits are an address byte)
-                const address = text.byte >> 1;
-                addresses.set(address, (addresses.get(address) ?? 0) + 1);
-                text.after = false;
-            } else if ((byte >= 48 && byte <= 57) || (byte >= 65 && byte <= 70) || (byte >= 97 && byte <= 102)) {
-                text.byte = text.digits === 0 ? digit(byte) : (text.byte << 4) | digit(byte);
-                if (++text.digits > 2) text.after = false;
-            } else if (byte > 32) {
-                text.after = false;
-            }
+            comment.open = true;
+            comment.line = '';
         }
     }
 }
@@ -163,16 +142,16 @@ const LACKS = [
 ];
 
 function takeComment(line, number) {
-    const comment = line.trimEnd();
+    const text = line.trimEnd();
     let what;
-    if (comment === ' no packets') what = 'No packets are in the recording';
-    else if (/^ line [0-9]+: a transfer failed with /.test(comment)) what = 'A transfer failed';
-    else if (/^ [0-9]+ lines? of /.test(comment)) what = 'Lines were passed over';
-    else if (/^ line [0-9]+: /.test(comment)) what = LACKS.find(([pattern]) => pattern.test(comment))?.[1];
+    if (text === ' no packets') what = 'No packets are in the recording';
+    else if (/^ line [0-9]+: a transfer failed with /.test(text)) what = 'A transfer failed';
+    else if (/^ [0-9]+ lines? of /.test(text)) what = 'Lines were passed over';
+    else if (/^ line [0-9]+: /.test(text)) what = LACKS.find(([pattern]) => pattern.test(text))?.[1];
     if (what === undefined) return;
     const found = lost.find((it) => it.what === what);
     if (found !== undefined) found.count++;
-    else lost.push({ what, count: 1, line: number, text: comment.slice(1) });
+    else lost.push({ what, count: 1, line: number, text: text.slice(1) });
 }
 
 capture.scanned = 0;
@@ -275,10 +254,10 @@ const answers = {
     },
     // The capture whole, as a Blob.
     capture() {
-        return { blob: new Blob(capture.parts.map(({ blob }) => blob)), addresses: [...addresses] };
+        return { blob: new Blob(capture.parts.map(({ blob }) => blob)) };
     },
-    // Looks at a capture that stands in a file, piece by piece, so that what comes meanwhile need not wait.
-    async scan({ blob }) {
+    // Takes a capture that stands in a file, piece by piece, so that what comes meanwhile need not wait.
+    async keep({ blob }) {
         const piece = 1 << 20;
         for (let at = 0; at < blob.size; at += piece) {
             const part = blob.slice(at, at + piece);
@@ -288,7 +267,7 @@ const answers = {
             await new Promise((resolve) => setTimeout(resolve, 0));
         }
         self.postMessage({ lost });
-        return { addresses: [...addresses] };
+        return {};
     },
     // The row at which a line of the capture comes, for jumps.
     rowOfLine({ line }) {

@@ -123,9 +123,7 @@ class Looks {
     show(reading) {
         const items = reading ? looksOf(reading) : [];
         const keys = JSON.stringify(items);
-        const done = reading?.ended.has('json');
-        this.none.textContent = items.length > 0 || !reading ? ''
-            : done ? (reading.count === 0 ? 'There is no packet in it.' : 'Nothing: no fault, no protocol error, and every packet was acknowledged.') : 'Reading …';
+        this.none.textContent = items.length > 0 || !reading ? '' : this.noneText(reading);
         this.none.hidden = this.none.textContent === '';
         if (keys === this.keys) return;
         this.keys = keys;
@@ -133,6 +131,18 @@ class Looks {
         this.list.replaceChildren(...items.slice(0, 400).map((item) => this.item(reading, item)));
         if (chosen) [...this.list.querySelectorAll('button')].find((it) => it.dataset.look === chosen)?.focus();
         this.count = items.length;
+    }
+
+    // What stands in the place of an empty list. That there is nothing is said of all that was read, with
+    // the profile of all of it.
+    noneText(reading) {
+        const isRead = reading.ended.has('json');
+        if (reading.isCancelled) return 'It was cancelled. There was nothing up to there.';
+        if (!reading.isOver && !(isRead && reading.isSure)) return 'Reading …';
+        if (!isRead) return 'Nothing was read.';
+        if (reading.count === 0) return 'There is no packet in it.';
+        return reading.isSure ? 'Nothing: no fault, no protocol error, and every packet was acknowledged.'
+            : 'Nothing, as far as the profile of its first part tells.';
     }
 
     item(reading, item) {

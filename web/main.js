@@ -7,6 +7,7 @@ class Page {
         this.reading = null;
         this.generation = 0;
         this.selected = -1;
+        this.chosen = null; // a packet that is to be chosen once it has come
         this.view = 'bus';
         this.flags = { late: false, keepGoing: true };
         this.build();
@@ -72,8 +73,8 @@ class Page {
         this.packet = new Packet(packet, { step: (by) => this.step(by) });
         this.sums = new Sums(this.views.sums, { choose: (row) => { this.show('bus'); this.choose(row, 'sums'); } });
         this.profileView = new ProfileView(this.views.profile, {
-            read: (profile) => this.readWith(profile), current: () => this.profile,
-            addresses: () => this.fromAddresses(), open: () => this.files.click(),
+            read: (profile) => this.readWith(profile), scan: () => this.fromRecording(),
+            open: () => this.files.click(),
         });
         this.try = new Try(this.views.try, { profile: () => this.profile });
         this.help = helpDialog();
@@ -94,9 +95,9 @@ class Page {
         this.header.select(view);
         for (const [name, element] of Object.entries(this.views)) element.hidden = name !== view;
         if (view === 'try') this.try.show();
-        if (view === 'profile' && !this.profileView.text.value) this.profileView.show(this.profile ?? {
-            text: DATA.sample, name: 'sample.toml', origin: 'sample',
-        });
+        if (view === 'profile' && !this.profileView.text.value && !(this.recording && this.profile === null)) {
+            this.profileView.show(this.profile ?? { text: DATA.sample, name: 'sample.toml', origin: 'sample' });
+        }
         if (view === 'bus') this.timeline.resized();
     }
 
@@ -236,7 +237,7 @@ class Page {
                 this.profileView.show(this.profile);
             }
             rest = blob.slice(parts.rest);
-        } else if (!profile && ['capture', 'example', 'addresses'].includes(this.profile?.origin)) {
+        } else if (!profile && ['capture', 'example', 'scan'].includes(this.profile?.origin)) {
             // (a profile that belonged to another recording goes with it)
             this.profile = null;
         }
@@ -275,17 +276,26 @@ class Page {
         }
     }
 
-    async fromAddresses() {
-        if (!this.recording || !this.reading) return;
-        const { addresses } = await this.reading.ask('capture');
-        this.profileView.set({ text: profileOf(addresses), name: 'addresses.toml', origin: 'addresses' });
+    fromRecording() {
+        if (!this.recording) {
+            this.note('There is no recording.', 'Open one, and pmb scan makes a profile of it.');
+            return;
+        }
+        this.profile = null;
+        this.show('bus');
+        this.read();
     }
 
     // ---- reading
 
-    // Reads the recording with the profile. What was there before is gone.
-    async read() {
+    // Reads the recording with the profile, or with the one that `pmb scan` makes of it. What was there
+    // before is gone; `again`, of the same recording, leaves what the person chose.
+    async read(again = false) {
         const turn = ++this.generation;
+        // (what is imported in another way, and what was scanned in part, is scanned anew)
+        const { words, part } = this.profile ?? {};
+        if (words !== undefined && (part !== undefined || words !== this.recording.words.join(' '))) this.profile = null;
+        this.chosen = again ? this.keptChoice() : null;
         this.stop(true);
         this.selected = -1;
         this.alarm.hidden = true;
@@ -301,14 +311,16 @@ class Page {
         this.began = performance.now();
         this.firstRow = null;
         this.seconds = null;
-        this.phase = 'reading';
-        this.table.reset(reading);
-        this.timeline.reset(reading);
+        this.verb = again ? 'reading again with the profile of all of it' : 'reading';
+        this.phase = this.verb;
+        this.table.reset(reading, again);
+        this.timeline.reset(reading, again);
         this.packet.reset();
         this.sums.reset();
         this.looks.show(null);
         this.looksHead.textContent = '';
         this.grownLast = 0;
+        if (this.profile === null) this.profileView.none('pmb scan is making one of the recording');
         this.fresh();
         this.header.names(this.recording, this.profile);
         this.progressed();
@@ -317,13 +329,8 @@ class Page {
         try {
             const capture = await this.captureOf(reading);
             if (!current() || capture === null) return;
-            if (this.profile === null) {
-                const { addresses } = await reading.ask('capture');
-                if (!current()) return;
-                this.profile = { text: profileOf(addresses), name: 'addresses.toml', origin: 'addresses' };
-                this.profileView.show(this.profile);
-            }
-            this.header.names(this.recording, this.profile);
+            if (this.profile === null) await this.scan(reading, capture, current);
+            if (!current() || this.profile === null) return;
             await this.readCapture(reading, capture, current);
         } catch (mistake) {
             if (current()) this.fail(mistake.message);
@@ -334,9 +341,7 @@ class Page {
     async captureOf(reading) {
         const { blob, source } = this.recording;
         if (source === 'capture') {
-            const scanned = reading.ask('scan', { blob });
-            // (with a profile at hand there is no need to wait for its addresses)
-            if (this.profile === null) await scanned;
+            reading.ask('keep', { blob });
             return blob;
         }
         this.phase = 'importing';
@@ -346,9 +351,73 @@ class Page {
             this.finish();
             return null;
         }
-        this.phase = 'reading';
+        this.phase = this.verb;
         reading.progress = { used: 0, size: 1 };
         return (await reading.ask('capture')).blob;
+    }
+
+    // Makes the profile that `pmb scan` writes of a capture. That of a long one is at first that of its first
+    // part; the whole is scanned while it is read, and `reading.scan` ends when that has come.
+    async scan(reading, capture, current) {
+        this.phase = 'scanning';
+        this.progressed();
+        const words = this.recording.words.join(' ');
+        const run = (size, progress) => scanned(capture, size, words, { signal: reading.cancel.signal, progress });
+        const size = await firstPart(capture);
+        if (!current()) return;
+        const first = await run(size);
+        if (!current()) return;
+        if (first.error) {
+            this.profileView.none('pmb scan made none');
+            this.note('No profile could be made of it.', `${first.error}\nOpen one, or write it in the view Profile.`);
+            this.finish();
+            return;
+        }
+        this.take(first);
+        this.phase = this.verb;
+        if (first.part === undefined) return;
+        reading.isSure = false;
+        const whole = run(capture.size, (progress) => {
+            if (!current() || !reading.ended.has('json')) return;
+            this.phase = 'scanning all of it';
+            reading.progress = progress;
+            this.progressed();
+        });
+        reading.scan = whole.then((profile) => this.scannedWhole(reading, profile));
+        reading.scan.catch(() => {}); // (it is awaited in readCapture, unless the reading was cancelled)
+    }
+
+    // The profile of the whole recording has come. If it says the same as that of the first part, nothing
+    // changes but its comments; else the recording is read again with it.
+    scannedWhole(reading, profile) {
+        if (reading !== this.reading || reading.isCancelled) return;
+        if (profile.error) {
+            this.note('The profile is that of the first part of the recording.', profile.error);
+            return;
+        }
+        const isSame = tablesOf(profile.text) === tablesOf(this.profile.text);
+        this.take(profile);
+        reading.isSure = isSame;
+        if (!isSame) {
+            this.read(true);
+            return;
+        }
+        this.looks.show(reading);
+        this.tellEnd();
+    }
+
+    // Takes a profile of `pmb scan`. What a person is writing in the view of the profile stays there.
+    take(profile) {
+        this.profile = profile;
+        if (this.profileView.kind !== 'edited') this.profileView.show(profile);
+        this.header.names(this.recording, profile);
+        this.fillHow();
+    }
+
+    // Says where `pmb scan` read no further, if it did.
+    tellEnd() {
+        const end = this.profile.origin === 'scan' ? readUpTo(this.profile.text) : undefined;
+        if (end) this.note('The profile is that of the part before a word that is no token.', `pmb scan: ${end}`);
     }
 
     get readWords() {
@@ -356,12 +425,11 @@ class Page {
     }
 
     async readCapture(reading, capture, current) {
+        this.tellEnd();
         const input = [this.profile.text, '\n%%\n', capture];
         const json = reading.run('json', ['json', ...this.readWords], input);
         const log = reading.run('log', ['log', ...this.readWords], input);
-        const cancelled = new AbortController();
-        reading.cancel = cancelled;
-        const stats = program(['stats', '--json', ...this.readWords], input, { signal: cancelled.signal });
+        const stats = program(['stats', '--json', ...this.readWords], input, { signal: reading.cancel.signal });
         stats.catch(() => {}); // (it is awaited below, unless the reading was cancelled)
         const ended = await json;
         if (!current()) return;
@@ -375,17 +443,20 @@ class Page {
         this.grown(true);
         await log;
         if (!current()) return;
-        this.table.draw();
+        this.table.ended();
         const sums = await stats;
         if (!current()) return;
         reading.stats = sums.text;
         this.sums.show(reading, sums.text);
+        await reading.scan;
+        if (!current()) return;
         this.finish();
     }
 
     finish() {
         for (const worker of this.reading.runs.values()) worker.terminate();
-        this.reading.cancel?.abort();
+        this.reading.cancel.abort();
+        this.reading.isOver = true;
         this.header.done();
         this.looks.show(this.reading);
         this.tell();
@@ -397,14 +468,16 @@ class Page {
         const { reading } = this;
         this.whole = false;
         if (!reading) return;
-        reading.cancel?.abort();
         if (other) {
             reading.close();
             return;
         }
+        reading.cancel.abort();
         for (const worker of reading.runs.values()) worker.terminate();
         this.generation++;
-        this.cancelled = true;
+        reading.isCancelled = true;
+        this.looks.show(reading);
+        if (this.profile === null) this.profileView.none('none: pmb scan was cancelled');
         this.header.done();
         this.header.say(`cancelled after ${counted(reading.count, 'row')}`);
     }
@@ -448,6 +521,7 @@ class Page {
             return;
         }
         this.grownLast = time;
+        if (this.chosen !== null) this.chooseAgain();
         this.timeline.grown();
         this.tell();
         this.looks.show(reading);
@@ -489,9 +563,11 @@ class Page {
     choose(row, from) {
         const { reading } = this;
         if (!reading || row < 0 || row >= reading.count) return;
+        this.chosen = null;
         this.selected = row;
         this.table.select(row);
-        this.timeline.select(row, from === 'looks' || from === 'sums');
+        if (from === 'again') this.timeline.mention(row);
+        else this.timeline.select(row, from === 'looks' || from === 'sums');
         this.packet.show(reading, row);
     }
 
@@ -501,6 +577,19 @@ class Page {
             return;
         }
         this.reading.ask('rowOfLine', { line: item.line }).then(({ row: near }) => this.choose(near, 'looks'));
+    }
+
+    // The event at which the chosen packet begins, or null.
+    keptChoice() {
+        return this.selected < 0 ? this.chosen ?? null : this.reading.at.items[this.selected];
+    }
+
+    // Chooses, in a reading that begins again, the packet that was chosen before, once it has come.
+    chooseAgain() {
+        const { at, count } = this.reading;
+        if (count === 0 || at.items[count - 1] < this.chosen) return;
+        const row = lowerBound(count, (i) => at.items[i], this.chosen);
+        this.choose(row, 'again');
     }
 
     // The next row of the table, or the one before.

@@ -1,14 +1,9 @@
 // ---- the profile: its text, its mistake, and the bus that it makes
 
-const ORIGINS = {
-    file: 'a file', part: 'a part of examples/profiles', addresses: 'made from the addresses in the recording', sample: 'the sample profile',
-    edited: 'edited here', capture: 'from the recording', example: 'of the example',
-};
-
 class ProfileView {
-    constructor(place, { read, current, addresses, open }) {
+    // `read` reads with a profile; `scan` makes one of the recording; `open` chooses files.
+    constructor(place, { read, scan, open }) {
         this.read = read;
-        this.current = current;
         this.parts = make('select', { 'aria-label': 'A profile of a real part', onchange: () => this.part() },
             make('option', { value: '', text: 'A real part …' }), ...Object.keys(DATA.parts).map((name) => make(
                 'option', { value: name, text: name },
@@ -33,8 +28,11 @@ class ProfileView {
                 'h2', { text: 'Profile' },
             ), this.origin, make('span', { class: 'gap' }),
                 this.parts, button(
-                    'From the addresses',
-                    { title: 'A device for each address that answered in the recording', onclick: addresses },
+                    'From the recording',
+                    {
+                        title: 'What pmb scan makes of the recording: a device for each address that acknowledged',
+                        onclick: scan,
+                    },
                 ),
                 button(
                     'Sample',
@@ -75,12 +73,25 @@ class ProfileView {
     }
 
     show(profile) {
+        this.profile = profile;
         this.text.value = profile.text;
         this.name = profile.name;
-        this.origin.textContent = `${profile.name ?? ''} · ${ORIGINS[profile.origin]}`;
+        this.origin.textContent = `${profile.name ?? ''} · ${originText(profile)}`;
         this.kind = profile.origin;
         this.lines();
         this.check();
+    }
+
+    // Shows that there is none, and why.
+    none(why) {
+        this.turn = (this.turn ?? 0) + 1;
+        this.profile = null;
+        this.text.value = '';
+        this.name = undefined;
+        this.origin.textContent = why;
+        this.kind = undefined;
+        this.lines();
+        this.tell(null, '');
     }
 
     part() {
@@ -92,13 +103,14 @@ class ProfileView {
 
     edited() {
         this.kind = 'edited';
-        this.origin.textContent = `${this.name ?? ''} · ${ORIGINS.edited}`;
+        this.origin.textContent = `${this.name ?? 'profile.toml'} · ${originText({ origin: 'edited' })}`;
         this.lines();
         this.look();
     }
 
     submit() {
-        this.read({ text: this.text.value, name: this.name ?? 'profile.toml', origin: this.kind ?? 'edited' });
+        const isShown = this.profile && this.kind !== 'edited';
+        this.read(isShown ? this.profile : { text: this.text.value, name: this.name ?? 'profile.toml', origin: 'edited' });
     }
 
     lines() {

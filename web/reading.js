@@ -15,9 +15,10 @@ function startRun(words, input, port, more = {}) {
     return worker;
 }
 
-// Runs the program, and gives what it wrote. `signal` ends it.
-function program(words, input, { signal } = {}) {
+// Runs the program, and gives what it wrote. `signal` ends it; `progress` hears how far it is.
+function program(words, input, { signal, progress } = {}) {
     return new Promise((resolve, reject) => {
+        if (signal?.aborted) throw new DOMException('cancelled', 'AbortError');
         const channel = new MessageChannel();
         const pieces = [];
         const worker = startRun(words, input, channel.port2);
@@ -33,6 +34,7 @@ function program(words, input, { signal } = {}) {
             finish();
             reject(new Error(event.message || 'the program could not be started'));
         };
+        worker.onmessage = ({ data }) => { if (data.used !== undefined) progress?.(data); };
         channel.port1.onmessage = ({ data }) => {
             if (data.bytes !== undefined) {
                 pieces.push(data.bytes);
@@ -148,7 +150,11 @@ class Reading {
         this.blocks = new Map();
         this.ended = new Set();
         this.progress = { used: 0, size: 1 };
+        this.cancel = new AbortController(); // of what is run besides, and not for the keeper
         this.closed = false;
+        this.isCancelled = false;
+        this.isOver = false; // nothing more comes, though it was not cancelled
+        this.isSure = true; // not while its profile is that of a first part
         this.stats = null;
         this.errors = [];
         this.keeper.onmessage = ({ data }) => this.heard(data);
@@ -373,6 +379,7 @@ class Reading {
 
     close() {
         this.closed = true;
+        this.cancel.abort();
         for (const worker of this.runs.values()) worker.terminate();
         this.keeper.terminate();
         this.runs.clear();

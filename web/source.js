@@ -36,15 +36,3 @@ function split(text) {
 
 // The samples of a second that a recording of sigrok says, if it does.
 const rateOf = (text) => /samplerate[=: ]+([0-9]+)/i.exec(text)?.[1] ?? '';
-
-// A profile for addresses that something acknowledged, with nothing else known of them.
-function profileOf(addresses) {
-    const devices = addresses
-        .map(([address]) => address)
-        .filter((address) => address >= 0x08 && address <= 0x77 && address !== 0x0c)
-        .sort((one, two) => one - two);
-    const head = '# Made from the addresses that answered in this recording. Name the devices, and say what the\n' +
-        '# standard leaves open: pages, vout_mode, commands of their own.\n';
-    return head + devices.map((address) => `\n[[device]]\naddress = 0x${hexByte(address)}\npec = "optional"\n`).join('') +
-        (devices.length === 0 ? '\ndevice = []\n' : '');
-}

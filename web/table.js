@@ -111,16 +111,20 @@ class Table {
         return this.rows[index] === row ? index : -1;
     }
 
-    reset(reading) {
+    // Takes another reading; `again`, of the same recording, keeps the filter.
+    reset(reading, again) {
         this.reading = reading;
-        this.rows = null;
+        this.rows = again && this.filtered ? [] : null;
+        this.last = 0;
         this.selected = -1;
         this.top = 0;
         this.asked++;
         this.names = '';
-        this.clearFilter(false);
-        this.device.replaceChildren(make('option', { value: '', text: 'all devices' }));
-        this.command.replaceChildren(make('option', { value: '', text: 'all commands' }));
+        if (!again) {
+            this.clearFilter(false);
+            this.device.replaceChildren(make('option', { value: '', text: 'all devices' }));
+            this.command.replaceChildren(make('option', { value: '', text: 'all commands' }));
+        }
         for (const { element } of this.pool) element.remove();
         this.pool = [];
         this.scroller.scrollTop = 0;
@@ -150,12 +154,14 @@ class Table {
             this.names = names;
             const device = this.device.value;
             const command = this.command.value;
+            // (what is chosen stays, though a reading that began again has not come to it yet)
+            const devices = new Set([...this.reading.lanes.keys(), ...(device === '' ? [] : [Number(device)])]);
             this.device.replaceChildren(make('option', { value: '', text: 'all devices' }),
-                ...[...this.reading.lanes.keys()].sort((one, two) => one - two).map((it) => make(
+                ...[...devices].sort((one, two) => one - two).map((it) => make(
                     'option',
                     { value: it, text: this.reading.deviceText(it) },
                 )));
-            const codes = new Map();
+            const codes = new Map(command === '' ? [] : [[Number(command), '']]);
             for (const [key, name] of this.reading.commands) codes.set(key & 255, name);
             this.command.replaceChildren(make('option', { value: '', text: 'all commands' }),
                 ...[...codes].sort((one, two) => one[0] - two[0]).map(([code, name]) => make(
@@ -166,6 +172,12 @@ class Table {
             this.command.value = command;
         }
         if (this.filtered && performance.now() - (this.last ?? 0) > 1000) this.filter();
+        this.draw();
+    }
+
+    // All lines have come: those that a filter leaves too.
+    ended() {
+        if (this.filtered) this.filter();
         this.draw();
     }
 
@@ -252,6 +264,7 @@ class Table {
         const total = reading?.count ?? 0;
         this.table.style.setProperty('--number', `${Math.max(62, 12 + 8 * grouped(total).length)}px`);
         this.table.style.setProperty('--time', reading?.summary.dates ? '128px' : '96px');
+        this.table.classList.toggle('no-times', total > 0 && !reading.timed);
         this.counts.textContent = !reading ? '' : this.rows === null ? counted(total, 'row') : `${grouped(this.count)} of ${counted(total, 'row')}`;
         this.empty.hidden = this.count > 0 || !reading;
         this.empty.textContent = this.filtered ? 'No row is like that.' : reading?.ended.has('json') ? 'There is no packet.' : '';

@@ -64,17 +64,20 @@ class Timeline extends Pointed {
 
     // ---- what is shown
 
-    reset(reading) {
+    // Takes another reading; `again`, of the same recording, stays where it is.
+    reset(reading, again) {
         this.reading = reading;
         this.selected = -1;
-        this.mark = null;
-        this.fitted = true;
-        this.folded.clear();
+        if (!again) {
+            this.mark = null;
+            this.fitted = true;
+            this.folded.clear();
+            this.scroller.scrollTop = 0;
+        }
         this.signature = '';
         this.labels.replaceChildren();
         this.rows = [];
         this.tip.hidden = true;
-        this.scroller.scrollTop = 0;
         this.draw();
     }
 
@@ -168,6 +171,12 @@ class Timeline extends Pointed {
             }
             if (close || !this.inView(row)) this.show(place - span / 2, place + span / 2);
         }
+        this.draw();
+    }
+
+    // Selects a row where it is, in view or not.
+    mention(row) {
+        this.selected = row;
         this.draw();
     }
 
