@@ -1153,6 +1153,10 @@ def asked(words):
 
 def program(words, given):
     """The exit status and the standard output of `pmb import` with these words after it."""
+    if words[0] in (b"vcd", b"samples"):
+        from . import waves
+
+        return waves.program(words, given)
     request = asked(words)
     if request is None:
         return 2, b""

@@ -1,3 +1,5 @@
 pub mod CaptureLaw
 pub mod Digits
+pub mod DrawnForm
+pub mod DrawnLaw
 pub mod PiecesLaw

@@ -1,12 +1,13 @@
 -- The wave form of packets, drawn by SMBus's rules: what each wire is given, one stroke after the other, and each stroke
 -- some time behind the one before it.
 use Rattle.std.specs.Prelude.{◌≡◌, ◌<◌, ◌≤◌, ℕ, suc, ◌+◌, ◌*◌, ◌/◌, ◌%◌, ◌==◌, not, true, false, Bool, Option, Some, None}
-use Rattle.std.specs.Prelude.{if◌then◌else◌, List, [], ◌∷◌, ◌++◌, length}
+use Rattle.std.specs.Prelude.{List, [], ◌∷◌, ◌++◌, length}
 use Rattle.std.specs.List.{flat_map}
+use Rattle.pmb_recording.specs.Told.{no_packets_line}
 use Rattle.pmb_recording.specs.Wire.{most_wire}
 use Rattle.pmb_recording.specs.declared.wire_byte.WireByte.{WireByte}
-use Rattle.pmb_wire_packets.specs.Packets.{Told, Packet, millisecond}
-use Rattle.pmb_wire_packets.specs.Pieces.{Read, Gives}
+use Rattle.pmb_wire_packets.specs.Packets.{Told, Packet, Outside, millisecond, packets_in, told, told_texts}
+use Rattle.pmb_wire_packets.specs.Pieces.{EachRises, Read, Gives, capture_of, items}
 use Rattle.pmb_wires.specs.declared.level.Level.{Level}
 use Rattle.pmb_wires.specs.declared.level.Level.TheVariants.{Low, High}
 use Rattle.pmb_wires.specs.declared.moment.Edge.{Edge}
@@ -50,21 +51,36 @@ again_strokes = Sda High ∷ Scl High ∷ Sda Low ∷ Scl Low ∷ []
 abbrev pub stop_strokes : List Stroke
 stop_strokes = Sda Low ∷ Scl High ∷ Sda High ∷ []
 
+abbrev pub strokes_by : Bool → WireByte → List Stroke
+strokes_by true b = again_strokes ++ byte_strokes b
+strokes_by false b = byte_strokes b
+
 abbrev pub next_strokes : WireByte → List Stroke
-next_strokes b = if b.follows_start then again_strokes ++ byte_strokes b else byte_strokes b
+next_strokes b = strokes_by b.follows_start b
 
 -- the first byte stands behind START, and each other one behind a byte
 abbrev pub packet_strokes : List WireByte → List Stroke
 packet_strokes [] = []
 packet_strokes (b ∷ wire) = start_strokes ++ (byte_strokes b ++ (flat_map next_strokes wire ++ stop_strokes))
 
--- what has a wave form
-pub record IsPacket (wire : List WireByte) : Type 0 where
-  pub first : WireByte
-  pub others : List WireByte
-  pub whole : wire ≡ first ∷ others
+-- what has a wave form: a packet that a recording has room for, whose bytes are bytes
+abbrev pub AreBytes : List WireByte → Type 0
+AreBytes [] = Unit {0}
+AreBytes (b ∷ wire) = (b.byte < 256) × AreBytes wire
+
+pub record BeginsPacket (first : WireByte) (others : List WireByte) : Type 0 where
   pub starts : first.follows_start ≡ true
-  pub fits : length wire ≤ most_wire
+  pub byte : first.byte < 256
+  pub bytes : AreBytes others
+  pub fits : length others + 1 ≤ most_wire
+
+abbrev pub IsPacket : List WireByte → Type 0
+IsPacket [] = ⊥
+IsPacket (first ∷ others) = BeginsPacket first others
+
+abbrev pub ArePackets : List (List WireByte) → Type 0
+ArePackets [] = Unit {0}
+ArePackets (wire ∷ packets) = IsPacket wire × ArePackets packets
 
 -- ---- times
 
@@ -121,3 +137,15 @@ pub record IsDrawable (glitch timeout : ℕ) (pen : Pen) : Type 0 where
 abbrev pub all_read : List Moment → List Read
 all_read [] = []
 all_read (m ∷ ms) = Gives m ∷ all_read ms
+
+-- What is told of the wave form is these packets, with their times, and its capture is theirs. Times rise in it, as the
+-- law of a reader wants.
+pub record IsReadBack (glitch timeout origin time : ℕ) (pen : Pen) (packets : List (List WireByte)) : Type 0 where
+  pub rises : EachRises (all_read (wave_form pen time packets))
+  pub same : told timeout Outside (items glitch (all_read (wave_form pen time packets))) ≡ timed pen 1 time packets
+  pub capture : capture_of glitch timeout origin (all_read (wave_form pen time packets))
+      ≡ told_texts origin (timed pen 1 time packets) ++ no_packets_line (packets_in (timed pen 1 time packets))
+
+abbrev pub ReadsDrawn : Type 0
+ReadsDrawn = (glitch timeout origin time : ℕ) (pen : Pen) (packets : List (List WireByte))
+    → IsDrawable glitch timeout pen → ArePackets packets → IsReadBack glitch timeout origin time pen packets

@@ -1,6 +1,7 @@
 //! The laws of packets of wires: each function is its contract, and does nothing.
 
 ghost use Rattle.std.specs.Prelude.{◌≡◌, List, ℕ};
+ghost use Rattle.pmb_wire_packets.specs.Drawn.{ReadsDrawn};
 ghost use Rattle.pmb_wire_packets.specs.Packets.{Item, capture};
 ghost use Rattle.pmb_wire_packets.specs.Pieces.{EachRises, Read, capture_of};
 ghost use Rattle.pmb_wire_packets.specs.machine.Steps.{run_text, start};
@@ -19,3 +20,10 @@ pub fn reads_all_pieces()
 {
     tells_signals();
 }
+
+/// The wave form of any packets is read back: drawn by SMBus's rules, with phases that are long enough
+/// to be no spikes and short enough for the time-out, it tells these packets with their times of
+/// START, in order, and nothing else.
+pub fn reads_drawn_packets()
+    ensures { ReadsDrawn }
+{}

@@ -1,0 +1,10 @@
+pub mod CountLemmas
+pub mod DigitLemmas
+pub mod GrowLemmas
+pub mod LineLemmas
+pub mod NumberLemmas
+pub mod QuoteLemmas
+pub mod RowLemmas
+pub mod ScaledLaw
+pub mod TextLemmas
+pub mod WalkLemmas

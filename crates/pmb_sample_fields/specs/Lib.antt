@@ -1,0 +1,9 @@
+pub mod Fields
+pub mod Levels
+pub mod Numbers
+pub mod Row
+pub mod Rows
+pub mod Scaled
+pub mod Times
+pub mod Units
+pub mod machine

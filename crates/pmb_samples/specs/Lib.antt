@@ -1,0 +1,9 @@
+pub mod Columns
+pub mod Examples
+pub mod Heading
+pub mod Levels
+pub mod Lines
+pub mod Reads
+pub mod Rows
+pub mod Source
+pub mod machine

@@ -1,0 +1,9 @@
+pub mod BodyRises
+pub mod Ending
+pub mod FedLaw
+pub mod HeadUnits
+pub mod HeadlessLaw
+pub mod Joined
+pub mod ReadsLaw
+pub mod RisesLaw
+pub mod WordLemmas

@@ -1,0 +1,7 @@
+use Rattle.pmb_vcd_recording.proofs.Ending.{ends_on_ok}
+use Rattle.pmb_vcd_recording.proofs.vcd.VcdLineTask.end.Goals as goal
+
+pub returns-clause-ends : goal.returns-clause-ends
+returns-clause-ends g c start lines text stands =
+    ends_on_ok c.take_last.result start c.args.self.now _ lines text _ _ _ _ stands c.take_last.ensures.now
+    c.take_last.ensures.puts

@@ -1,0 +1,2 @@
+pub mod KeptLaw
+pub mod NameLemmas

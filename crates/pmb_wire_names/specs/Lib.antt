@@ -1,0 +1,5 @@
+pub mod Choosing
+pub mod Kept
+pub mod Matching
+pub mod Rows
+pub mod Signals
