@@ -57,8 +57,9 @@ _pmb_flags() {
         import) echo --joined --bus --rate --unshifted --help ;;
         show | check | build | run | profile) echo --profile --part --joined --sample --help ;;
         scan) echo --joined --help ;;
-        json | log) echo "$facts" --help ;;
-        stats) echo --json "$facts" --fail-on --help ;;
+        json) echo "$facts" --help ;;
+        log) echo "$facts" --color --help ;;
+        stats) echo --json "$facts" --fail-on --color --help ;;
         encode | decode | parts | explain) echo --help ;;
         '') echo --help --version ;;
     esac
@@ -66,7 +67,7 @@ _pmb_flags() {
 
 # Whether a flag has a value.
 _pmb_has_value() {
-    case $1 in -p | --profile | --part | --bus | --rate | --digits | --device | --fail-on) ;; *) return 1 ;; esac
+    case $1 in -p | --profile | --part | --bus | --rate | --digits | --device | --fail-on | --color) ;; *) return 1 ;; esac
 }
 
 # What the value of a flag can be, after what stands there so far.
@@ -77,6 +78,7 @@ _pmb_values() {
         --digits) printf '%s\n' {0..12} ;;
         --device) _pmb_devices ;;
         --part) _pmb_names ;;
+        --color) printf '%s\n' auto always never ;;
         --fail-on)
             case $2 in *,*) front=${2%,*}, ;; esac
             printf '%s\n' "$front"{refusals,bad-tokens,nacks,alerts,faults,none-read}

@@ -88,5 +88,6 @@ complete -c pmb -n "__pmb_is $capture" -l fixed-vout-mode -d 'With --late, VOUT_
 complete -c pmb -n "__pmb_is $capture" -l keep-going -d 'After a word that is no token, read on'
 complete -c pmb -n "__pmb_is $capture" -l digits -x -a '(seq 0 12)' -d 'The most digits after the point'
 complete -c pmb -n "__pmb_is $capture" -l device -x -a '(__pmb_devices)' -d 'Write only what is of this device'
+complete -c pmb -n '__pmb_is log stats' -l color -x -a 'auto always never' -d 'Whether there is colour'
 complete -c pmb -n '__pmb_is stats' -l json -d 'Write objects, one a line'
 complete -c pmb -n '__pmb_is stats' -l fail-on -x -a '(__pmb_fail_on)' -d 'What makes the exit status 1'

@@ -1,8 +1,8 @@
 // Stands beside the program's object in the link of the released program (release/link), so that
 // other C libraries than that of the toolchain start it: glibc from 2.14 on, and musl. The
-// toolchain's own link takes five things from the C library that these lack: its start under the
+// toolchain's own link takes six things from the C library that these lack: its start under the
 // version of glibc 2.34, the list of what the processor has, of 2.33, `getdents64`, of 2.30, `statx`, of
-// 2.28, and a second name of `write`.
+// 2.28, `clock_gettime`, of 2.17, and a second name of `write`.
 
 typedef int entry(int count, char **words, char **environment);
 typedef void constructor(int count, char **words, char **environment);
@@ -13,6 +13,7 @@ extern int first_start(entry *main, int count, char **words, constructor *constr
 __asm__(".symver first_start, __libc_start_main@GLIBC_2.2.5");
 extern long write(int file, const void *bytes, unsigned long count);
 
+#include "clock_gettime.h"
 #include "getdents64.h"
 #include "statx.h"
 

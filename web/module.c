@@ -39,7 +39,7 @@ static long failed(int number)
     return -1;
 }
 
-enum { ENOENT = 2, EBADF = 9, ESPIPE = 29, EIO = 5, LARGEST = 1 << 30 };
+enum { ENOENT = 2, EBADF = 9, EINVAL = 22, ESPIPE = 29, EIO = 5, LARGEST = 1 << 30 };
 
 long read(int file, void *bytes, size most)
 {
@@ -111,6 +111,13 @@ int isatty(int file)
     (void)file;
     failed(25);
     return 0;
+}
+
+// There is no clock.
+int clock_gettime(int clock, void *time)
+{
+    (void)clock, (void)time;
+    return (int)failed(EINVAL);
 }
 
 // ---- the words of the command line, and the start

@@ -134,6 +134,8 @@ UNDER_SAMPLE = [
     (["log", "--sample"], CAPTURE),
     (["stats", "--sample"], CAPTURE),
     (["stats", "--sample", "--json"], CAPTURE),
+    (["log", "--sample", "--color", "always"], CAPTURE),
+    (["stats", "--sample", "--color=always"], CAPTURE),
     (["build", "--sample"], TRANSACTIONS),
     (["run", "--sample"], REQUESTS),
 ]

@@ -41,7 +41,8 @@ class Program:
 
     def environment(self, faults):
         told = {name.upper(): str(value) for name, value in faults.items()}
-        return {"LD_PRELOAD": self.shim, "COUNTS_TO": "3", "END_AFTER": str(END_AFTER), "PMB_EXPLAIN": "0", **told}
+        return {"LD_PRELOAD": self.shim, "COUNTS_TO": "3", "END_AFTER": str(END_AFTER), "PMB_EXPLAIN": "0",
+                "NO_COLOR": "1", **told}
 
     def start(self, words, streams, **faults):
         """Starts the program with these descriptors as standard input, output and error, None for

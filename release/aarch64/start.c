@@ -11,6 +11,7 @@ extern int main(int count, char **words);
 
 extern int openat(int folder, const char *name, int flags, ...);
 
+#include "../clock_gettime.h"
 #include "../getdents64.h"
 #include "../statx.h"
 

@@ -1,4 +1,4 @@
-//! The program `pmb`: [`pmb_files::run_files`] over the words, the files and the streams of the process; and
+//! The program `pmb`: [`pmb_files::run_painted`] over the words, the files and the streams of the process; and
 //! `parts`, which looks into folders.
 //!
 //! Where nobody reads standard output any more, as in `pmb .. | head`, no line says so: whoever closed the
@@ -9,54 +9,73 @@ mod disk;
 mod folders;
 mod part_words;
 mod parts;
+mod progress;
 mod streams;
+mod terminal;
 
 use crate::disk::Disk;
 use crate::part_words::{name_parts, run_under_parts};
-use crate::parts::{parts_asked, run_parts};
+use crate::parts::{no_memory, parts_asked, run_parts};
+use crate::progress::Progress;
 use crate::streams::{Faults, Output};
-use pmb_cli::{Io, no_words};
-use pmb_explained::{Explaining, KeptOutput};
-use pmb_files::run_files;
-use std::io::{self, IsTerminal};
+use crate::terminal::{chosen_style, run_over};
+use pmb_cli::{Io, Sink, no_words};
+use std::cell::Cell;
+use std::io;
 use std::process::ExitCode;
 
 fn words(rt: &HostRuntime) -> io::Result<Vec<String>> {
     Ok(std::env::args(rt)?.collect(rt.alloc())?)
 }
 
-/// Whether faults are explained: where standard error is a terminal, and as `PMB_EXPLAIN` says.
-fn explaining(rt: &HostRuntime) -> Explaining {
-    let is_on = match std::env::var(rt, "PMB_EXPLAIN") {
-        Ok(text) => text.as_str() == "1",
-        Err(_) => rt.stderr().is_terminal(),
+/// Runs `pmb` as its words say, and returns standard output and the exit status.
+fn run<W: Sink, E: Sink>(
+    rt: &HostRuntime,
+    words: &[String],
+    progress: &Progress<'_>,
+    out: W,
+    err: &mut E,
+) -> (W, u8) {
+    if let Some(names) = parts_asked(words) {
+        let mut out = out;
+        let status = run_parts(rt, names, &mut out, err);
+        return (out, status);
+    }
+    if read_capture(words) {
+        progress.count_packets();
+    }
+    let Ok(style) = chosen_style(rt, words) else {
+        return (out, no_memory(err));
     };
-    if is_on {
-        Explaining::On
-    } else {
-        Explaining::Off
+    if name_parts(words) {
+        return run_under_parts(rt, words, style, progress, out, err);
+    }
+    let files = Disk::new(rt, b"", progress);
+    run_over(rt.alloc(), words, &files, style, out, err)
+}
+
+/// Whether the words are of a subcommand that reads a capture.
+fn read_capture(words: &[String]) -> bool {
+    match words {
+        [_, task, ..] => matches!(
+            task.as_str(),
+            "show" | "check" | "json" | "log" | "stats" | "scan"
+        ),
+        _ => false,
     }
 }
 
 fn main(rt: HostRuntime) -> ExitCode {
-    let mut err = Io::new(Faults::new(rt.stderr()));
+    let progress = Progress::new(&rt);
+    let is_closed = Cell::new(false);
+    let mut err = Io::new(Faults::new(rt.stderr(), &progress, &is_closed));
     let status = match words(&rt) {
         Ok(words) => {
-            let files = Disk::new(&rt, b"");
-            let output = Io::new(Output::new(rt.stdout()));
-            let mut out = KeptOutput::new(output, explaining(&rt), words.as_slice());
-            let status = match parts_asked(words.as_slice()) {
-                Some(names) => run_parts(&rt, names, &mut out, &mut err),
-                None if name_parts(words.as_slice()) => {
-                    run_under_parts(&rt, words.as_slice(), &mut out, &mut err)
-                }
-                None => run_files(rt.alloc(), words.as_slice(), &files, &mut out, &mut err),
-            };
-            err.into_inner()
-                .end(out.into_inner().into_inner().is_closed);
-            status
+            let out = Io::new(Output::new(rt.stdout(), &progress, &is_closed));
+            run(&rt, words.as_slice(), &progress, out, &mut err).1
         }
         Err(error) => no_words(error.kind(), &mut err),
     };
+    progress.wipe();
     ExitCode::from(status)
 }

@@ -2,10 +2,11 @@
 
 use crate::disk::{AT_HAND, Disk};
 use crate::parts::{board_of, no_memory};
+use crate::progress::Progress;
+use crate::terminal::{Style, run_over};
 use pmb_args::{WordsFound, find_task};
 use pmb_cli::Sink;
-use pmb_explained::KeptOutput;
-use pmb_files::{run_files, split_words};
+use pmb_files::{split_words, take_color};
 use std::alloc::{AllocError, Global};
 
 /// The flag.
@@ -60,36 +61,39 @@ fn has_flag(words: &[String]) -> bool {
     false
 }
 
-/// Runs `pmb` as its words say, under the profile of the board of the parts that they name, and returns its
-/// exit status. Faults in the words come first, then those of the parts.
+/// Runs `pmb` as its words say, under the profile of the board of the parts that they name, and returns
+/// standard output and the exit status. Faults in the words come first, then those of the parts.
 pub(crate) fn run_under_parts<W: Sink, E: Sink>(
     rt: &HostRuntime,
     words: &[String],
-    out: &mut KeptOutput<W>,
+    style: Style,
+    progress: &Progress<'_>,
+    out: W,
     err: &mut E,
-) -> u8 {
+) -> (W, u8) {
     let alloc = rt.alloc();
     let Ok(taken) = take_parts(alloc, words) else {
-        return no_memory(err);
+        return (out, no_memory(err));
     };
     let Ok(runs) = has_no_fault(alloc, taken.left.as_slice()) else {
-        return no_memory(err);
+        return (out, no_memory(err));
     };
     let mut profile = Vec::new(alloc);
     if runs && !taken.parts.is_empty() {
         match board_of(rt, taken.parts.as_slice(), err) {
             Ok(text) => profile = text,
-            Err(status) => return status,
+            Err(status) => return (out, status),
         }
     }
-    let files = Disk::new(rt, profile.as_slice());
-    run_files(alloc, taken.left.as_slice(), &files, out, err)
+    let files = Disk::new(rt, profile.as_slice(), progress);
+    run_over(alloc, taken.left.as_slice(), &files, style, out, err)
 }
 
 /// Whether the words have no fault, so that files are looked at next.
 fn has_no_fault(alloc: Global, words: &[&str]) -> Result<bool, AllocError> {
-    let said = split_words(alloc, words)?;
-    if said.has_two_profiles() || said.has_two_inputs() {
+    let asked = take_color(alloc, words)?;
+    let said = split_words(alloc, asked.left.as_slice())?;
+    if asked.choice().is_none() || said.has_two_profiles() || said.has_two_inputs() {
         return Ok(false);
     }
     match find_task(alloc, said.tool.as_slice())? {
@@ -137,7 +141,7 @@ fn take_parts<'a>(alloc: Global, words: &'a [String]) -> Result<PartWords<'a>, A
 fn after(word: &str) -> Next {
     match word {
         "--" => Next::Name,
-        "-p" | "--profile" | "--digits" | "--device" | "--fail-on" => Next::Value,
+        "-p" | "--profile" | "--color" | "--digits" | "--device" | "--fail-on" => Next::Value,
         _ => Next::Any,
     }
 }

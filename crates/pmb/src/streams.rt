@@ -1,34 +1,44 @@
-//! Standard output, which keeps whether its reader is gone, and standard error, which then says nothing of it.
+//! Standard output, and standard error, which says nothing of a write that failed where nobody reads standard
+//! output any more. Before both write, the line of progress is wiped where it would meet them.
 
+use crate::progress::Progress;
+use std::cell::Cell;
 use std::io::{self, ErrorKind, Write};
 
-/// What is reported of a write that failed.
-const WRITE_FAILED: &[u8] = b"pmb: write failed\n";
+/// How a line ends that reports a write that failed. With several files it names one.
+const WRITE_FAILED: &[u8] = b": write failed\n";
 
 /// Standard output.
 #[derive(Drop)]
-pub(crate) struct Output<W> {
+pub(crate) struct Output<'a, W> {
     inner: W,
-    /// Whether a write failed since nobody reads any more.
-    pub(crate) is_closed: bool,
+    progress: &'a Progress<'a>,
+    /// Set where a write fails since nobody reads any more.
+    is_closed: &'a Cell<bool>,
 }
 
-impl<W> Output<W> {
-    pub(crate) fn new(inner: W) -> Output<W> {
+impl<'a, W> Output<'a, W> {
+    pub(crate) fn new(
+        inner: W,
+        progress: &'a Progress<'a>,
+        is_closed: &'a Cell<bool>,
+    ) -> Output<'a, W> {
         Output {
             inner,
-            is_closed: false,
+            progress,
+            is_closed,
         }
     }
 }
 
-impl<W: Write> Write for Output<W> {
+impl<W: Write> Write for Output<'_, W> {
     fn write(&mut self, bytes: &[u8]) -> io::Result<usize> {
+        self.progress.make_room();
         match self.inner.write(bytes) {
             Ok(count) => Ok(count),
             Err(error) => {
                 if error.kind() == ErrorKind::BrokenPipe {
-                    self.is_closed = true;
+                    self.is_closed.set(true);
                 }
                 Err(error)
             }
@@ -40,35 +50,33 @@ impl<W: Write> Write for Output<W> {
     }
 }
 
-/// Standard error. That a write failed is held back, since it may be no fault.
+/// Standard error.
 #[derive(Drop)]
-pub(crate) struct Faults<W> {
+pub(crate) struct Faults<'a, W> {
     inner: W,
-    /// Whether a write failed, which was not written yet.
-    holds: bool,
+    progress: &'a Progress<'a>,
+    /// Whether nobody reads standard output any more.
+    is_closed: &'a Cell<bool>,
 }
 
-impl<W: Write + Drop> Faults<W> {
-    pub(crate) fn new(inner: W) -> Faults<W> {
+impl<'a, W> Faults<'a, W> {
+    pub(crate) fn new(
+        inner: W,
+        progress: &'a Progress<'a>,
+        is_closed: &'a Cell<bool>,
+    ) -> Faults<'a, W> {
         Faults {
             inner,
-            holds: false,
-        }
-    }
-
-    /// Writes what was held back, unless standard output was closed.
-    pub(crate) fn end(self, is_closed: bool) {
-        let Faults { mut inner, holds } = self;
-        if holds && !is_closed {
-            let _ = inner.write_all(WRITE_FAILED);
+            progress,
+            is_closed,
         }
     }
 }
 
-impl<W: Write> Write for Faults<W> {
+impl<W: Write> Write for Faults<'_, W> {
     fn write(&mut self, bytes: &[u8]) -> io::Result<usize> {
-        if bytes == WRITE_FAILED {
-            self.holds = true;
+        self.progress.wipe();
+        if self.is_closed.get() && bytes.ends_with(WRITE_FAILED) {
             return Ok(bytes.len());
         }
         self.inner.write(bytes)

@@ -62,6 +62,9 @@ pub(crate) fn log_command<'a>(alloc: Global) -> Result<Command<'a>, AllocError>
          with its address. Without -p, --part and --sample it\n                           \
          comes before a line '%%' in the capture\n      \
          --joined             Read several files as one capture\n\n\
+         Terminal:\n      \
+         --color <WORD>       auto, always or never: errors in red, warnings in\n                           \
+         yellow; auto, the default, only on a terminal\n\n\
          'pmb profile' shows what a profile makes, or what is wrong with it.\n\n\
          Examples:\n  \
          echo 'S b0 A 21 A 00 A 18 A P' | pmb log --sample\n  \
@@ -130,6 +133,9 @@ fn bare_stats_command<'a>(alloc: Global) -> Command<'a>
          with its address. Without -p, --part and --sample it\n                           \
          comes before a line '%%' in the capture\n      \
          --joined             Read several files as one capture\n\n\
+         Terminal:\n      \
+         --color <WORD>       auto, always or never: errors in red, warnings in\n                           \
+         yellow; auto, the default, only on a terminal\n\n\
          'pmb profile' shows what a profile makes, or what is wrong with it.\n\n\
          Examples:\n  \
          echo 'S b0 A 7a A S b1 A 10 N P' | pmb stats --sample --fail-on faults\n  \

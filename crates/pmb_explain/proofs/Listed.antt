@@ -97,6 +97,7 @@ listed (fault.Argument argument.NeedsLate) = refl
 listed (fault.Argument argument.BadDigits) = refl
 listed (fault.Argument argument.BadAddress) = refl
 listed (fault.Argument argument.BadFailOn) = refl
+listed (fault.Argument argument.BadColor) = refl
 listed (fault.Argument argument.BadSource) = refl
 listed (fault.Argument argument.BadRate) = refl
 listed (fault.Argument argument.SigrokOnly) = refl

@@ -61,6 +61,7 @@ argument_name argument.NeedsLate = codes "NeedsLate"
 argument_name argument.BadDigits = codes "BadDigits"
 argument_name argument.BadAddress = codes "BadAddress"
 argument_name argument.BadFailOn = codes "BadFailOn"
+argument_name argument.BadColor = codes "BadColor"
 argument_name argument.BadSource = codes "BadSource"
 argument_name argument.BadRate = codes "BadRate"
 argument_name argument.SigrokOnly = codes "SigrokOnly"
@@ -141,9 +142,9 @@ format_faults =
 abbrev pub argument_faults : List Fault
 argument_faults =
     fault.Argument argument.NeedsLate ∷ fault.Argument argument.BadDigits ∷ fault.Argument argument.BadAddress ∷
-    fault.Argument argument.BadFailOn ∷ fault.Argument argument.BadSource ∷ fault.Argument argument.BadRate ∷
-    fault.Argument argument.SigrokOnly ∷ fault.Argument argument.NoBus ∷ fault.Argument argument.TwoProfiles ∷
-    fault.Argument argument.TwoInputs ∷ []
+    fault.Argument argument.BadFailOn ∷ fault.Argument argument.BadColor ∷ fault.Argument argument.BadSource ∷
+    fault.Argument argument.BadRate ∷ fault.Argument argument.SigrokOnly ∷ fault.Argument argument.NoBus ∷
+    fault.Argument argument.TwoProfiles ∷ fault.Argument argument.TwoInputs ∷ []
 
 abbrev pub all_faults : List Fault
 all_faults = protocol_errors ++ (profile_mistakes ++ (line_faults ++ (request_faults ++ (number_faults

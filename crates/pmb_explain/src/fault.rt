@@ -34,6 +34,8 @@ pub enum ArgumentFault {
     BadAddress,
     /// WHAT of `--fail-on` has a word that it doesn't know.
     BadFailOn,
+    /// WORD of `--color` is none of the three.
+    BadColor,
     /// SOURCE of `import` is none of the five.
     BadSource,
     /// HZ of `--rate` is no number of samples a second.
@@ -241,6 +243,7 @@ fn name_of_argument(fault: ArgumentFault) -> &'static str
         ArgumentFault::BadDigits => "BadDigits",
         ArgumentFault::BadAddress => "BadAddress",
         ArgumentFault::BadFailOn => "BadFailOn",
+        ArgumentFault::BadColor => "BadColor",
         ArgumentFault::BadSource => "BadSource",
         ArgumentFault::BadRate => "BadRate",
         ArgumentFault::SigrokOnly => "SigrokOnly",

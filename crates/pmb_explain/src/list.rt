@@ -107,6 +107,7 @@ const ALL: &[Fault] = &[
     Fault::Argument(ArgumentFault::BadDigits),
     Fault::Argument(ArgumentFault::BadAddress),
     Fault::Argument(ArgumentFault::BadFailOn),
+    Fault::Argument(ArgumentFault::BadColor),
     Fault::Argument(ArgumentFault::BadSource),
     Fault::Argument(ArgumentFault::BadRate),
     Fault::Argument(ArgumentFault::SigrokOnly),

@@ -33,6 +33,10 @@ pub(crate) fn of_argument(fault: ArgumentFault) -> Said {
                    commas and no blanks between them.",
             page: "docs/stats.md#what-makes-the-status-1",
         },
+        ArgumentFault::BadColor => Said {
+            text: "WORD of --color is auto, always or never.",
+            page: "docs/color.md#the-flag",
+        },
         ArgumentFault::BadSource => Said {
             text: "SOURCE is sigrok (the text of its I2C decoder), saleae (the table of Logic 2), beagle (the CSV of\n\
                    Data Center), kernel or smbus (the events of i2c or smbus in a trace of Linux).",

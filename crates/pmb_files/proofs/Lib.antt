@@ -6,3 +6,5 @@ pub mod Reading
 pub mod Ran
 pub mod Passed
 pub mod Statuses
+pub mod Ended
+pub mod Colors

@@ -9,4 +9,7 @@ pub mod Values
 pub mod Over
 pub mod Each
 pub mod Program
+pub mod Color
+pub mod Asked
+pub mod Painted
 pub mod machine

@@ -6,3 +6,4 @@ pub mod FailsHead
 pub mod Unannounced
 pub mod Contradicts
 pub mod Said
+pub mod Color

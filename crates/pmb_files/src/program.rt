@@ -7,6 +7,7 @@ ghost use Rattle.std.specs.List.{All};
 ghost use Rattle.pmb_args.specs.ExitStatus.{OfCode};
 ghost use Rattle.pmb_explained.specs.Asked.{asks_to_explain};
 ghost use Rattle.pmb_explained.specs.Kept.{kept_told};
+ghost use Rattle.pmb_files.specs.Asked.{RanAsked};
 ghost use Rattle.pmb_files.specs.Contradictions.{names_of};
 ghost use Rattle.pmb_files.specs.Over.{RanOver};
 ghost use Rattle.pmb_files.specs.Program.{AskOver, Asks, FirstFault, IsHead, MayBeFine, RanFiles};
@@ -14,6 +15,7 @@ ghost use Rattle.pmb_files.specs.Words.{split_words};
 ghost use Rattle.pmb_files.specs.machine.FailsHead.{FailsHead};
 ghost use Rattle.pmb_files.specs.machine.Words.{file_words_of};
 
+use crate::asked::run_asked;
 use crate::contradiction::{find_contradiction, report_contradiction};
 use crate::each::run_each;
 use crate::faults::{report_failure, report_file, report_mark, report_too_long};
@@ -45,16 +47,16 @@ pub fn run_files<S: AsStr, F: Opener, W: Sink, E: Sink>(
     err: &mut E,
 ) -> u8
     ensures ran { asks_to_explain (map S.text words.now) ≡ false
-        → OfCode (RanFiles F.known F.Opened.remaining (kept_told W.told) E.told SAMPLE.now files.now (split_words (map S.text words.now)) (out.old, err.old) (out.new, err.new)) result }
+        → OfCode (RanAsked F.known F.Opened.remaining (kept_told W.told) E.told SAMPLE.now files.now (map S.text words.now) (out.old, err.old) (out.new, err.new)) result }
 {
     if asks_to_explain(words) {
         return explain_name(alloc, words, out, err);
     }
-    run_split(alloc, words, files, out, err)
+    run_asked(alloc, words, files, out, err)
 }
 
-// Runs `pmb` as its words say, which don't ask what a name means.
-fn run_split<S: AsStr, F: Opener, W: Sink, E: Sink>(
+/// Runs `pmb` as its words say, without those of `--color`.
+pub(crate) fn run_split<S: AsStr, F: Opener, W: Sink, E: Sink>(
     alloc: Global,
     words: &[S],
     files: &F,

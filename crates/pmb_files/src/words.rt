@@ -261,7 +261,7 @@ fn take_words<'a, S: AsStr>(
 }
 
 // How often a word is among words.
-fn count(words: &[&str], word: &str) -> usize
+pub(crate) fn count(words: &[&str], word: &str) -> usize
     ensures { result ≡ count_of word.now (map (λ word. word.now) words.now) }
 {
     let mut count = 0;
@@ -356,7 +356,7 @@ fn sort_of(file_use: FileUse, word: &str) -> Sort
 }
 
 // Whether a word follows a flag of the tool.
-fn is_valued(word: &str) -> bool
+pub(crate) fn is_valued(word: &str) -> bool
     ensures { result ≡ is_valued word.now }
 {
     word == "--digits"

@@ -8,6 +8,8 @@ mod capture_reader;
 #[cfg(test)]
 mod captures;
 #[cfg(test)]
+mod drafts;
+#[cfg(test)]
 mod items;
 #[cfg(test)]
 mod lines;

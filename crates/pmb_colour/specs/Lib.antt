@@ -1,0 +1,11 @@
+pub mod Pieces
+pub mod Choice
+pub mod Cut
+pub mod Bits
+pub mod Log
+pub mod Table
+pub mod Painting
+pub mod Onward
+pub mod Painted
+pub mod Rows
+pub mod machine

@@ -1,0 +1,3 @@
+-- What private fields say.
+pub mod Painter
+pub mod LineParts

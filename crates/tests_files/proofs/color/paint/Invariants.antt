@@ -1,0 +1,5 @@
+use Rattle.tests_files.proofs.color.paint.Given as goal
+
+-- what standard output holds at first, and what lines are painted, are those that are handed on
+abbrev pub ghosts-run_painted : goal.ghosts-run_painted
+ghosts-run_painted g a = record { before = (g.W.Sink.told a.out).held; lines = a.lines }
